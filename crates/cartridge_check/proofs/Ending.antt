@@ -7,7 +7,7 @@ use Rattle.std.specs.Prelude.{◌==◌, ◌&&◌, if◌then◌else◌, codes, de
 use Rattle.segment_io.proofs.Going.{tells_always}
 use Rattle.cartridge_front.proofs.Copies.{IsLearnt, told_learnt}
 use Rattle.cartridge_front.specs.Finding.{HasFormat, FindsHeader, FindsVolumes, ShowsVolumes, Leaves, NamesCause, is_of_mounting}
-use Rattle.cartridge_front.specs.declared.fault.StoreFault.{StoreFault}
+use Rattle.segment_io.specs.declared.fault.StoreFault.{StoreFault}
 use Rattle.cartridge_front.specs.declared.table_reader.Unread.{Unread}
 use Rattle.cartridge_spec.specs.Mounting.{Mounted, Mounts}
 use Rattle.cartridge_spec.specs.Table.{Entry}
@@ -36,10 +36,8 @@ use Rattle.qic_base.specs.declared.TheConstants.{LONGEST}
 use Rattle.qic_base.specs.declared.tape.TapeInfo.{TapeInfo}
 use Rattle.volume_store.proofs.Refusals.{foreign_is_refused}
 use Rattle.volume_store.proofs.Started.{told_before}
-use Rattle.volume_store.specs.Opening.{IsAbsent, StartFails}
-use Rattle.volume_store.specs.declared.opening.OpenFault.{OpenFault}
 use Rattle.cartridge_check.specs.Checking.{CheckCut, CheckEnds, CheckFails, HasChecked, HasHeader, HasTable, TableEnds, TableRefused}
-use Rattle.cartridge_check.specs.Checking.{WasRefused, as_check, as_started, ended, fault_status, is_refusal, tally_line, tally_status}
+use Rattle.cartridge_check.specs.Checking.{WasRefused, as_check, ended, fault_status, is_refusal, tally_line, tally_status}
 use Rattle.cartridge_check.specs.Telling.{HasFew, HasTold, TellingCut, TellsAll}
 use Rattle.cartridge_check.specs.declared.fault.CheckFault.{CheckFault}
 use Rattle.cartridge_check.specs.declared.tally.Tally.{Tally}
@@ -52,9 +50,8 @@ use Rattle.qic_base.specs.SinkCalls as sink_calls
 use Rattle.qic_base.specs.Tape as tapes
 use Rattle.qic_base.specs.TapeCalls as tape_calls
 use Rattle.cartridge_check.specs.declared.fault.CheckFault.TheVariants as fault
-use Rattle.cartridge_front.specs.declared.fault.StoreFault.TheVariants as store
+use Rattle.segment_io.specs.declared.fault.StoreFault.TheVariants as store
 use Rattle.command_spec.specs.declared.status.Status.TheVariants as status
-use Rattle.volume_store.specs.declared.opening.OpenFault.TheVariants as open_fault
 
 -- ---- the cartridge that is there
 
@@ -599,24 +596,8 @@ module _ {T K : Type 0} (t : tapes.Meaning T) (k : sinks.Meaning K) where
     sound = refl;
   }
 
-  absent_told : (o : Option (Option Cartridge)) → IfSome o (λ held. held ≡ None) →
-      IfSome o (λ held. HeldOutcome Checks held (ended [] status.NoCartridge))
-  absent_told None none = tt
-  absent_told (Some None) none = refl
-  absent_told (Some (Some c)) none = absurd (cc)
-
-  -- there is none
-  absent : (a b : T) (x : K) → ((y : K) → k.took y [] y) → IsAbsent t a b → WasRefused t k (around a x) (around b x) fault.NoCartridge
-  absent a b x nothing none = record {
-    acts = [];
-    went = record { did = none.0; wrote = record { took = nothing x; later = omega arith }; source_later = omega arith };
-    told = absent_told (t.told a) none.1;
-    prints = refl;
-    sound = refl;
-  }
-
   -- a fault of the tape broke the insertion off
-  unstarted : (a b : T) (x : K) → ((y : K) → k.took y [] y) → tapes.Broke t a b [] → CheckCut t k (around a x) (around b x) TapeFails
+  pub unstarted : (a b : T) (x : K) → ((y : K) → k.took y [] y) → tapes.Broke t a b [] → CheckCut t k (around a x) (around b x) TapeFails
   unstarted a b x nothing broke = record {
     told = by_told (t.told a);
     acts = [];
@@ -629,13 +610,6 @@ module _ {T K : Type 0} (t : tapes.Meaning T) (k : sinks.Meaning K) where
       by_told None = tt
       by_told (Some held) = λ outcome does.
           cut_is_longer t no_source k (around a x) (around b x) [] outcome.acts TapeFails (read_cut t k nothing a b x broke)
-
-  -- .. by the answer of the start
-  pub start_failed : (a b : T) (x : K) (why : OpenFault) → ((y : K) → k.took y [] y) → StartFails t a b why →
-      CheckFails t k (around a x) (around b x) (as_started why)
-  start_failed a b x open_fault.NoCartridge nothing none = absent a b x nothing none
-  start_failed a b x (open_fault.Refused store.Tape) nothing broke = unstarted a b x nothing broke
-  start_failed a b x (open_fault.Refused f) nothing never = absurd never
 
   -- the cartridge was put in before
   module _ (a b : T) (x : K) (c : Outside T (Unit {0}) K) (put_in : tapes.Done t a b []) where

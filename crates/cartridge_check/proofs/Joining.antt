@@ -2,7 +2,6 @@
 use Rattle.std.proofs.Common.{◌≡◌, List, [], ◌∷◌, ◌++◌, length, refl, sym, ap, ◌∙◌, subst, arith, append-nil}
 use Rattle.std.proofs.Common.{Result, Ok, Err}
 use Rattle.std.specs.List.{AllZip}
-use Rattle.std.specs.Prelude.{IsOkUnless, OnOk}
 use Rattle.segment_io.proofs.Going.{tells_always}
 use Rattle.qic_base.proofs.Steps.{Tells-map, tells_two, Tells-read}
 use Rattle.qic_base.proofs.Writing.{TakesBoth}
@@ -149,7 +148,7 @@ module _ {T K : Type 0} (t : tapes.Meaning T) (k : sinks.Meaning K) where
 
   module _ (l : Looked) (a b : T) (x y : K) (v : Verdict) (told : tape_calls.Tells t a (λ c. IsTold c l v)) (may : MayBeTold l v)
       (did : tapes.Done t a b []) where
-    line_written : (before after : Tally) → sinks.Wrote k x y (verdict_line l.segment v) → Counted (v ∷ []) before after →
+    pub line_written : (before after : Tally) → sinks.Wrote k x y (verdict_line l.segment v) → Counted (v ∷ []) before after →
         HasTold t k (l ∷ []) (around a x) (around b y) before after
     line_written before after wrote counted = record {
       verdicts = v ∷ [];
@@ -163,7 +162,7 @@ module _ {T K : Type 0} (t : tapes.Meaning T) (k : sinks.Meaning K) where
       counted = counted;
     }
 
-    line_cut : sink_calls.BrokeOff k x y (verdict_line l.segment v) → TellingCut t k (l ∷ []) (around a x) (around b y) SinkFails
+    pub line_cut : sink_calls.BrokeOff k x y (verdict_line l.segment v) → TellingCut t k (l ∷ []) (around a x) (around b y) SinkFails
     line_cut broke =
         let off : Cut t no_source k (around a x) (around b y) (verdict_acts (l ∷ []) (v ∷ [])) SinkFails =
         sink_cut_one t no_source k (around a x) (around b y) (record { steps = []; text = verdict_line l.segment v }) did broke
@@ -180,20 +179,6 @@ module _ {T K : Type 0} (t : tapes.Meaning T) (k : sinks.Meaning K) where
           may = (may, tt);
           cut = off;
         }
-
-    -- by the answer
-    pub tells_once : (before after : Tally) (result : Result (Unit {0}) CheckFault) →
-        sink_calls.Writes k x y (verdict_line l.segment v) result → IsOkUnless result fault.Sink →
-        OnOk result (Counted (v ∷ []) before after) → TellsAll t k (l ∷ []) (around a x) (around b y) before after result
-    tells_once before after (Ok done) wrote sound counted = line_written before after wrote counted
-    tells_once before after (Err why) broke sound counted =
-        subst (λ (f : CheckFault). TellsAll t k (l ∷ []) (around a x) (around b y) before after (Err f)) (sym sound) (line_cut broke)
-
-  pub tells_failed : ((x : K) → k.took x [] x) → (l : Looked) (a b : T) (s : K) (before after : Tally) (why : CheckFault) →
-      why ≡ fault.Tape → tapes.Broke t a b [] → TellsAll t k (l ∷ []) (around a s) (around b s) before after (Err why)
-  tells_failed nothing l a b s before after why is broke =
-      subst (λ (f : CheckFault). TellsAll t k (l ∷ []) (around a s) (around b s) before after (Err f)) (sym is)
-      (none_told nothing (l ∷ []) a b s broke)
 
   -- ---- by answers
 

@@ -24,6 +24,7 @@ use Rattle.qic_base.specs.CartridgeTerms.{IsCartridge}
 use Rattle.qic_base.specs.Tape.{Meaning, Done}
 use Rattle.qic_base.specs.TapeCalls.{IsToldRight, Tells}
 use Rattle.qic_base.specs.declared.tape.SectorView.TheVariants.{Holds}
+use Rattle.qic_base.specs.declared.tape.TapeFailed.{TapeFailed}
 use Rattle.segment_io.proofs.SolvedCells.{slice_get-take}
 use Rattle.segment_io.specs.Gathered.{Gathered}
 use Rattle.segment_io.specs.declared.fault.SegFault.{SegFault}
@@ -33,7 +34,6 @@ use Rattle.segment_mending.specs.declared.locating.Unread.TheVariants.{Lost, Mis
 use Rattle.segment_mending.specs.declared.searching.Searched.TheVariants.{Reads, Fails}
 use Rattle.cartridge_check.proofs.Telling.{told_by, verdict_of_read}
 use Rattle.cartridge_check.specs.Verdicts.{IsJudged, IsUndecided}
-use Rattle.cartridge_check.specs.declared.fault.CheckFault.{CheckFault}
 use Rattle.segment_io.specs.declared.fault.SegFault.TheVariants as seg
 use Rattle.segment_mending.specs.declared.searching.Searched.TheVariants as searching
 
@@ -131,7 +131,7 @@ judged_undecided c sector verdict named und = record {
 -- ---- what is told of a tape, by two calls that read
 
 pub told_later : {T A : Type 0} (m : Meaning T) (old mid : T) (P : Cartridge → Type 0) (Q R : A → Cartridge → Type 0)
-    (result : Result A CheckFault) → ((answer : A) (c : Cartridge) → P c → Q answer c → R answer c) → Done m old mid [] →
+    (result : Result A TapeFailed) → ((answer : A) (c : Cartridge) → P c → Q answer c → R answer c) → Done m old mid [] →
     Tells m old P → IfOk result (λ answer. Tells m mid (Q answer)) → IfOk result (λ answer. Tells m old (R answer))
 told_later m old mid P Q R (Ok answer) follows read first second =
     tells_two m old P (Q answer) (R answer) (follows answer) first (Tells-read (Q answer) read second)

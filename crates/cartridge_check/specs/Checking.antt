@@ -16,15 +16,13 @@ use Rattle.command_spec.specs.Check.{Checks, IsCheck, check_refused, header_copi
 use Rattle.cartridge_check.specs.Telling.{HasTold, TellingCut}
 use Rattle.cartridge_check.specs.declared.fault.CheckFault.{CheckFault}
 use Rattle.cartridge_check.specs.declared.tally.Tally.{Tally}
-use Rattle.cartridge_front.specs.declared.fault.StoreFault.{StoreFault}
-use Rattle.volume_store.specs.declared.opening.OpenFault.{OpenFault}
+use Rattle.segment_io.specs.declared.fault.StoreFault.{StoreFault}
 use Rattle.qic_base.specs.Sink as sinks
 use Rattle.qic_base.specs.Tape as tapes
 use Rattle.qic_base.specs.TapeCalls as tape_calls
 use Rattle.cartridge_check.specs.declared.fault.CheckFault.TheVariants as fault
-use Rattle.cartridge_front.specs.declared.fault.StoreFault.TheVariants as store
+use Rattle.segment_io.specs.declared.fault.StoreFault.TheVariants as store
 use Rattle.command_spec.specs.declared.status.Status.TheVariants as status
-use Rattle.volume_store.specs.declared.opening.OpenFault.TheVariants as open_fault
 
 -- ---- answers
 
@@ -62,11 +60,6 @@ as_check (store.Foreign field value) = fault.Foreign field value
 as_check (store.Lost segment lost) = fault.Lost lost
 as_check store.TableMismatch = fault.TableMismatch
 as_check other = fault.Tape
-
--- .. and of a start
-abbrev pub as_started : OpenFault → CheckFault
-as_started open_fault.NoCartridge = fault.NoCartridge
-as_started (open_fault.Refused why) = as_check why
 
 -- ---- the end of a check
 

@@ -7,7 +7,7 @@ ghost use Rattle.drive_states.specs.Reach.{reads_in};
 ghost use Rattle.host_driver.specs.Calls.{IsReady, Keeps};
 ghost use Rattle.host_driver.specs.Fits.{AgreesWithTape, segments_of};
 ghost use Rattle.cartridge_front.specs.Finding.{ShowsVolumes};
-ghost use Rattle.cartridge_check.specs.Checking.{CheckEnds, HeaderEnds, TableEnds, as_check, as_started};
+ghost use Rattle.cartridge_check.specs.Checking.{CheckEnds, HeaderEnds, TableEnds, as_check};
 ghost use Rattle.cartridge_check.specs.Telling.{HasFew};
 
 use crate::fault::CheckFault;
@@ -16,12 +16,12 @@ use crate::looking::{tell_copies, tell_table};
 use crate::tally::Tally;
 use crate::volumes::tell_volumes;
 use bad_sector_map::BadMap;
-use cartridge_front::{StoreFault, enter_primary, read_header, read_volumes};
+use cartridge_front::{enter_primary, read_header, read_volumes};
 use drive_states::Unit;
 use host_driver::Host;
-use qic_base::{Sink, SinkFailed, Tape, write_text};
-use segment_io::Workspace;
-use volume_store::{OpenFault, Room, start};
+use qic_base::{Sink, Tape, write_text};
+use segment_io::{StoreFault, Workspace};
+use volume_store::{Room, start};
 use volume_table::Table;
 
 /// The refusal of a mounting, or its fault of the tape.
@@ -34,16 +34,6 @@ fn check_fault(fault: StoreFault) -> CheckFault
         StoreFault::Lost { lost, .. } => CheckFault::Lost { lost },
         StoreFault::TableMismatch => CheckFault::TableMismatch,
         _ => CheckFault::Tape,
-    }
-}
-
-/// Why there was no start.
-fn start_fault(fault: OpenFault) -> CheckFault
-    ensures { result ≡ as_started fault }
-{
-    match fault {
-        OpenFault::NoCartridge => CheckFault::NoCartridge,
-        OpenFault::Refused(fault) => check_fault(fault),
     }
 }
 
@@ -140,10 +130,8 @@ fn check_segments<T: Tape, K: Sink>(
         sink,
         &mut tally,
     )?;
-    match write_text(counts_text(tally).bytes(), sink) {
-        Ok(()) => Ok(tally),
-        Err(SinkFailed) => Err(CheckFault::Sink),
-    }
+    write_text(counts_text(tally).bytes(), sink)?;
+    Ok(tally)
 }
 
 /// Looks at all segments of a cartridge that was put in.
@@ -161,10 +149,8 @@ fn check_started<T: Tape, K: Sink>(
     if !host.referenced() {
         return Err(CheckFault::NotFormatted);
     }
-    match enter_primary(host, unit) {
-        Ok(()) => check_segments(host, unit, room, sink),
-        Err(fault) => Err(check_fault(fault)),
-    }
+    enter_primary(host, unit);
+    check_segments(host, unit, room, sink)
 }
 
 /// Puts the cartridge in, and looks at both header copies, the table's segment and the carrying segments of all volumes,
@@ -179,8 +165,8 @@ pub fn check<T: Tape, K: Sink>(
     ensures { CheckEnds T.means K.means
         (around unit.old.tape sink.old) (around unit.new.tape sink.new) result }
 {
-    match start(unit) {
-        Ok(mut host) => check_started(&mut host, unit, &mut room, sink),
-        Err(fault) => Err(start_fault(fault)),
+    match start(unit)? {
+        Some(mut host) => check_started(&mut host, unit, &mut room, sink),
+        None => Err(CheckFault::NoCartridge),
     }
 }

@@ -1,6 +1,6 @@
 //! One segment looked at, its line printed, and counted.
 
-ghost use Rattle.std.specs.Prelude.{◌≡◌, ◌≢◌, ◌<◌, ◌^◌, [], ◌∷◌, true, OnOk, IsOkUnless};
+ghost use Rattle.std.specs.Prelude.{◌≡◌, ◌≢◌, ◌<◌, ◌^◌, [], ◌∷◌, true, OnOk};
 ghost use Rattle.qic_base.specs.Alone.{around};
 ghost use Rattle.qic_base.specs.SinkCalls.{Writes};
 ghost use Rattle.cartridge_spec.specs.Says.{whole_mask};
@@ -29,19 +29,14 @@ fn tell_verdict<K: Sink>(
     verdict: Verdict,
     sink: &mut K,
     tally: &mut Tally,
-) -> Result<(), CheckFault>
+) -> Result<(), SinkFailed>
     requires few { HasFew (2 ^ 26) tally.old }
     ensures wrote { Writes K.means sink.old sink.new (verdict_line segment verdict) result }
-    ensures fault { IsOkUnless result CheckFault.Sink }
     ensures counted { OnOk result (Counted (verdict ∷ []) tally.old tally.new) }
 {
-    match write_text(verdict_text(segment, verdict).bytes(), sink) {
-        Ok(()) => {
-            tally.count(verdict);
-            Ok(())
-        }
-        Err(SinkFailed) => Err(CheckFault::Sink),
-    }
+    write_text(verdict_text(segment, verdict).bytes(), sink)?;
+    tally.count(verdict);
+    Ok(())
 }
 
 /// Looks at a segment that isn't the volume table's.
@@ -66,7 +61,8 @@ pub(crate) fn tell_segment<T: Tape, K: Sink>(
     ensures keeps { Keeps T.means host.new unit.old unit.new }
 {
     let verdict = look_at_segment(host, unit, segment, usable, work)?;
-    tell_verdict(segment, verdict, sink, tally)
+    tell_verdict(segment, verdict, sink, tally)?;
+    Ok(())
 }
 
 /// Looks at the volume table's segment.
@@ -87,7 +83,8 @@ pub(crate) fn tell_table<T: Tape, K: Sink>(
     ensures keeps { Keeps T.means host.new unit.old unit.new }
 {
     let verdict = look_at_table(host, unit, work)?;
-    tell_verdict(TABLE_SEGMENT, verdict, sink, tally)
+    tell_verdict(TABLE_SEGMENT, verdict, sink, tally)?;
+    Ok(())
 }
 
 /// Looks at both header copies.

@@ -1,5 +1,5 @@
 -- The volume table read again: what it says of a list, and what a call did that read it.
-use Rattle.std.proofs.Common.{ℕ, List, subst, Err, ◌≡◌, ◌++◌, refl, [], ◌≢◌, sym, Result, ◌∙◌, ap, length, take, Ok, IsOkUnless, ◌∷◌, OnErr}
+use Rattle.std.proofs.Common.{ℕ, List, subst, Err, ◌≡◌, ◌++◌, refl, [], ◌≢◌, sym, Result, ◌∙◌, ap, length, take, Ok}
 use Rattle.std.proofs.Common.{inl}
 use Rattle.std.proofs.lemmas.List.Elements.{All-head}
 use Rattle.std.proofs.lemmas.List.{append-nil}
@@ -8,7 +8,7 @@ use Rattle.cartridge_spec.specs.TableSegment.{TableIs, table_cells}
 use Rattle.cartridge_laws.specs.TableCells.{HasList}
 use Rattle.cartridge_spec.specs.Says.{HasNoBlock, ByCode, LostSectors, TableSays, hidden_from}
 use Rattle.cartridge_spec.specs.Settling.{settling_steps}
-use Rattle.cartridge_spec.specs.Table.{Entry, Shows, table_with}
+use Rattle.cartridge_spec.specs.Table.{Entry, Shows}
 use Rattle.command_laws.proofs.StoreAgain.{list_shown}
 use Rattle.drive_spec.specs.Terms.{is_protected}
 use Rattle.drive_states.specs.Unit.{UnitView}
@@ -18,7 +18,7 @@ use Rattle.qic_base.proofs.Steps.{Tells-read, Done-after_reads, Broke-after_read
 use Rattle.qic_base.specs.Cartridge.{Cartridge}
 use Rattle.qic_base.specs.Step.{Step}
 use Rattle.qic_base.specs.Tape.{Meaning, Broke, Done}
-use Rattle.qic_base.specs.TapeCalls.{Tells, Does}
+use Rattle.qic_base.specs.TapeCalls.{Tells}
 use Rattle.qic_base.specs.declared.tape.SectorView.{SectorView}
 use Rattle.segment_io.proofs.Going.{tells_always}
 use Rattle.segment_io.specs.declared.fault.SegFault.{SegFault}
@@ -28,11 +28,11 @@ use Rattle.cartridge_front.specs.Again.{FindsList, IsBrokenOff, IsOfReading, IsR
 use Rattle.cartridge_front.specs.Again.{IsSettledAgain, BrokeUnread, FaultUnread}
 use Rattle.cartridge_front.specs.Finding.{FindsTable, refusal_of, Leaves}
 use Rattle.cartridge_front.specs.Settling.{mending_steps}
-use Rattle.cartridge_front.specs.declared.fault.StoreFault.{StoreFault}
+use Rattle.segment_io.specs.declared.fault.StoreFault.{StoreFault}
 use Rattle.cartridge_front.specs.declared.table_reader.Unread.{Unread}
 use Rattle.cartridge_laws.proofs.MountOnce.{one_table}
 use Rattle.segment_io.specs.declared.fault.SegFault.TheVariants as seg
-use Rattle.cartridge_front.specs.declared.fault.StoreFault.TheVariants as fault
+use Rattle.segment_io.specs.declared.fault.StoreFault.TheVariants as fault
 
 -- .. so data that show another tell that it doesn't
 pub list_missing : (c : Cartridge) (area : List (List ℕ)) (entries : List Entry) → ¬ (Shows area entries) → TableIs c area →
@@ -130,16 +130,20 @@ all_wanted wanted c area steps table are other again =
 
 -- ---- a call behind a reading
 
--- a settling
-pub settled_by : {T : Type 0} (m : Meaning T) (old mid new : T) (entries : List Entry) (area sectors : List (List ℕ)) (steps : List Step)
-    (r : Result (Unit {0}) StoreFault) →
-    Done m old mid [] → Does m mid new steps r → IsOkUnless r fault.Tape → Shows area entries → take 29 sectors ≡ area →
+-- a settling was done, or broke off
+pub settled_by : {T : Type 0} (m : Meaning T) (old mid new : T) (entries : List Entry) (area sectors : List (List ℕ)) (steps : List Step) →
+    Done m old mid [] → Done m mid new steps → Shows area entries → take 29 sectors ≡ area →
     Tells m old (λ c. TableIs c area × (steps ≡ settling_steps area c)) →
-    SettlesAgain m old new entries sectors r
-settled_by m old mid new entries area sectors steps (Ok answer) first next unless shown same told =
+    IsSettledAgain m old new entries (take 29 sectors)
+settled_by m old mid new entries area sectors steps first next shown same told =
     subst (λ (a : List (List ℕ)). IsSettledAgain m old new entries a) (sym same)
     (record { shown = shown; steps = steps; done = Done-after_reads first next; told = told })
-settled_by m old mid new entries area sectors steps (Err f) first next unless shown same told =
+
+pub settling_broke : {T : Type 0} (m : Meaning T) (old mid new : T) (entries : List Entry) (area sectors : List (List ℕ))
+    (steps : List Step) (r : Result (Unit {0}) StoreFault) → r ≡ Err fault.Tape →
+    Done m old mid [] → Broke m mid new steps → Tells m old (λ c. TableIs c area × (steps ≡ settling_steps area c)) →
+    SettlesAgain m old new entries sectors r
+settling_broke m old mid new entries area sectors steps r is first next told =
     let broken : IsBrokenOff m old new settling_steps = record {
       steps = steps;
       broke = Broke-after_reads first next;
@@ -147,18 +151,14 @@ settled_by m old mid new entries area sectors steps (Err f) first next unless sh
           (λ c. (other : List (List ℕ)) → TableIs c other → (rest : List Step) × (steps ++ rest ≡ settling_steps other c))
           (λ c known other again. all_wanted settling_steps c area steps known.0 known.1 other again) told;
     } in
-    subst (λ (e : StoreFault). SettlesAgain {A = Unit {0}} m old new entries sectors (Err e)) (sym unless) broken
+    subst (λ (answer : Result (Unit {0}) StoreFault). SettlesAgain m old new entries sectors answer) (sym is) broken
 
--- the writing of an entry
-pub added_by : {T : Type 0} (m : Meaning T) (old mid new : T) (entries : List Entry) (entry : Entry) (area : List (List ℕ))
-    (r : Result (Unit {0}) StoreFault) →
-    Done m old mid [] → Does m mid new (entry_writes entries entry area) r → IsOkUnless r fault.Tape → Shows area entries →
-    length area ≡ 29 →
-    Shows (table_with area (length entries) entry) (entries ++ entry ∷ []) → Tells m old (λ c. TableIs c area) →
+-- the writing of an entry broke off
+pub adding_broke : {T : Type 0} (m : Meaning T) (old mid new : T) (entries : List Entry) (entry : Entry) (area : List (List ℕ))
+    (r : Result (Unit {0}) StoreFault) → r ≡ Err fault.Tape →
+    Done m old mid [] → Broke m mid new (entry_writes entries entry area) → Tells m old (λ c. TableIs c area) →
     AddsEntry m old new entries entry r
-added_by m old mid new entries entry area (Ok answer) first next unless shown size more told =
-    record { area = area; shown = shown; done = Done-after_reads first next; told = told; size = size; with_entry = more }
-added_by m old mid new entries entry area (Err f) first next unless shown size more told =
+adding_broke m old mid new entries entry area r is first next told =
     let broken : IsBrokenOff m old new (λ a c. entry_writes entries entry a) = record {
       steps = entry_writes entries entry area;
       broke = Broke-after_reads first next;
@@ -168,37 +168,9 @@ added_by m old mid new entries entry area (Err f) first next unless shown size m
           (λ c known other again. all_wanted (λ a d. entry_writes entries entry a) c area
           (entry_writes entries entry area) known refl other again) told;
     } in
-    subst (λ (e : StoreFault). AddsEntry {A = Unit {0}} m old new entries entry (Err e)) (sym unless) broken
+    subst (λ (answer : Result (Unit {0}) StoreFault). AddsEntry m old new entries entry answer) (sym is) broken
 
 -- ---- answers
-
--- a call that fails by the tape alone
-pub reads_unless : {A : Type 0} (r : Result A StoreFault) → IsOkUnless r fault.Tape → IsOfReading r
-reads_unless (Ok answer) unless = tt
-reads_unless {A} (Err f) unless = subst (λ (e : StoreFault). IsOfReading {A = A} (Err e)) (sym unless) tt
-
-pub kept_unless : {A : Type 0} (P : Type 0) (r : Result A StoreFault) → IsOkUnless r fault.Tape → r ≢ Err fault.Tape → OnErr r P
-kept_unless P (Ok answer) unless sound = tt
-kept_unless P (Err f) unless sound = absurd (sound (ap Err unless))
-
--- a refusal is handed on
-pub reads_on : {B : Type 0} (A : Type 0) (f : StoreFault) (r : Result B StoreFault) → r ≡ Err f → IsOfReading {A = A} (Err f) →
-    IsOfReading r
-reads_on {B} A f r is kind = subst (λ (answer : Result B StoreFault). IsOfReading answer) (sym is) (by_fault f kind)
-  where
-    by_fault : (f : StoreFault) → IsOfReading {A = A} (Err f) → IsOfReading {A = B} (Err f)
-    by_fault (fault.Lost segment lost) kind = kind
-    by_fault fault.TableMismatch kind = tt
-    by_fault fault.Tape kind = tt
-    by_fault fault.NotFormatted kind = kind
-    by_fault (fault.Foreign field value) kind = kind
-    by_fault (fault.Full need have) kind = kind
-    by_fault (fault.NoVolume number count) kind = kind
-    by_fault (fault.Mismatch segment) kind = kind
-    by_fault fault.Protected kind = kind
-    by_fault (fault.Short promised read) kind = kind
-    by_fault fault.Source kind = kind
-    by_fault fault.Sink kind = kind
 
 -- what is known of a fault of the tape is told of the answer that is one
 pub fault_unread : {T A : Type 0} (m : Meaning T) (old new : T) (r : Result A StoreFault) → (r ≡ Err fault.Tape → BrokeUnread m old new) →

@@ -4,7 +4,6 @@ pub mod Collected
 pub mod Copies
 pub mod Mending
 pub mod Mounts
-pub mod Passing
 pub mod Settled
 pub mod Slots
 pub mod Stale

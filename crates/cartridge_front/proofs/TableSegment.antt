@@ -25,11 +25,11 @@ use Rattle.segment_io.specs.declared.fault.SegFault.{SegFault}
 use Rattle.segment_io.proofs.SolvedCells.{says_lost}
 use Rattle.cartridge_front.specs.declared.table_reader.Unread.{Unread}
 use Rattle.cartridge_spec.specs.Table.{Entry}
-use Rattle.cartridge_front.specs.declared.fault.StoreFault.{StoreFault}
+use Rattle.segment_io.specs.declared.fault.StoreFault.{StoreFault}
 use Rattle.cartridge_front.specs.Finding.{FindsTable, FindsVolumes, DecodesTable}
 use Rattle.cartridge_front.specs.Reading.{IsReadBut, SolvesTable}
 use Rattle.segment_io.specs.declared.fault.SegFault.TheVariants as seg
-use Rattle.cartridge_front.specs.declared.fault.StoreFault.TheVariants as store
+use Rattle.segment_io.specs.declared.fault.StoreFault.TheVariants as store
 
 -- a cell that isn't unreadable holds bytes
 readable_holds : (view : SectorView) → ¬ (IsUnreadable view) → (bytes : List ℕ) × (view ≡ Holds bytes)

@@ -24,10 +24,10 @@ use Rattle.header_segments.specs.Refusal.{FitsField}
 use Rattle.cartridge_laws.specs.HeaderLaws.{AreTaken}
 use Rattle.segment_io.specs.declared.fault.SegFault.{SegFault}
 use Rattle.segment_io.specs.declared.fault.SegFault.TheVariants as seg
-use Rattle.cartridge_front.specs.declared.fault.StoreFault.{StoreFault}
+use Rattle.segment_io.specs.declared.fault.StoreFault.{StoreFault}
 use Rattle.cartridge_front.specs.declared.table_reader.Unread.{Unread}
 use Rattle.cartridge_front.specs.Reading.{IsReadBut}
-use Rattle.cartridge_front.specs.declared.fault.StoreFault.TheVariants.{Foreign, NotFormatted, Lost, TableMismatch, Tape}
+use Rattle.segment_io.specs.declared.fault.StoreFault.TheVariants.{Foreign, NotFormatted, Lost, TableMismatch, Tape}
 
 -- ---- the tape
 

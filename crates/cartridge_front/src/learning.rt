@@ -1,6 +1,6 @@
 //! What a cartridge says, learnt by reads alone.
 
-ghost use Rattle.std.specs.Prelude.{◌≡◌, ◌≢◌, ◌-◌, ◌*◌, [], true, length, take, IsOk, IfOk, OnOk};
+ghost use Rattle.std.specs.Prelude.{◌≡◌, ◌≢◌, ◌-◌, ◌*◌, [], true, length, take, IfOk, OnOk};
 ghost use Rattle.qic_base.specs.TapeCalls.{Tells};
 ghost use Rattle.qic117_commands.specs.Views.{is_primary};
 ghost use Rattle.drive_spec.specs.Terms.{is_referenced};
@@ -9,17 +9,16 @@ ghost use Rattle.host_driver.specs.Fits.{AgreesWithTape, segments_of};
 ghost use Rattle.cartridge_front.specs.Finding.{Leaves, NamesCause, RefusesMounting, HasWords, ShowsVolumes};
 ghost use Rattle.cartridge_front.specs.Learning.{Learns};
 
-use crate::fault::StoreFault;
 use crate::header_reader::read_header;
 use crate::table_reader::Unread;
 use crate::volume_reader::read_volumes;
 use bad_sector_map::BadMap;
 use drive_states::Unit;
 use header_segments::Header;
-use host_driver::Host;
+use host_driver::{Host, WriteProtected};
 use qic_base::Tape;
 use qic117_commands::Mode;
-use segment_io::Workspace;
+use segment_io::{StoreFault, Workspace};
 use volume_table::Table;
 
 /// The header in force, and the sectors of the volume table's segment that the tape may hold otherwise.
@@ -31,18 +30,19 @@ pub struct Learnt {
     pub unread: Unread,
 }
 
-/// Has the drive stop the tape and enter Primary mode. It never fails.
-pub fn enter_primary<T: Tape>(host: &mut Host, unit: &mut Unit<T>) -> Result<(), StoreFault>
+/// Has the drive stop the tape and enter Primary mode.
+pub fn enter_primary<T: Tape>(host: &mut Host, unit: &mut Unit<T>)
     requires ready { IsReady T.means host.old unit.old }
-    ensures ok { IsOk result }
     ensures mode { unit.new.drive.deck.mode ≡ Mode.Primary }
     ensures cartridge { unit.new.drive.deck.cartridge ≡ unit.old.drive.deck.cartridge }
     ensures tape { unit.new.tape ≡ unit.old.tape }
     ensures ready { IsReady T.means host.new unit.new }
 {
-    host.halt(unit)?;
-    host.enter(unit, Mode::Primary)?;
-    Ok(())
+    host.halt(unit);
+    match host.enter(unit, Mode::Primary) {
+        Ok(()) => (),
+        Err(WriteProtected) => unreachable!("Primary mode writes nothing"),
+    }
 }
 
 /// Reads the header in force, the map of bad sectors and the list of volumes. The tape is only read.
@@ -71,7 +71,7 @@ pub fn learn<T: Tape>(
     ensures size { T.means.size unit.new.tape ≡ T.means.size unit.old.tape }
     ensures ready { IsReady T.means host.new unit.new }
 {
-    enter_primary(host, unit)?;
+    enter_primary(host, unit);
     let header = read_header(host, unit, work, map)?;
     let unread = read_volumes(host, unit, work, table)?;
     Ok(Learnt { header, unread })

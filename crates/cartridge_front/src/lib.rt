@@ -2,7 +2,6 @@
 //! table settled, and written with one entry more (the volume table and its settling are this project's profile).
 #![tactic(auto)]
 
-mod fault;
 mod header_reader;
 mod learning;
 mod refreshing;
@@ -11,7 +10,6 @@ mod table_reader;
 mod table_writer;
 mod volume_reader;
 
-pub use fault::StoreFault;
 pub use header_reader::read_header;
 pub use learning::{Learnt, enter_primary, learn};
 pub use refreshing::{add_entry, settle_again};

@@ -11,7 +11,6 @@ ghost use Rattle.cartridge_front.specs.Again.{AddsEntry, FaultUnread, FindsList,
 ghost use Rattle.cartridge_front.specs.Finding.{Leaves};
 ghost use Rattle.volume_table.specs.Entry.{entry_of};
 
-use crate::fault::StoreFault;
 use crate::settling::settle;
 use crate::table_reader::{Unread, data_sectors, read_table};
 use crate::table_writer::write_entry;
@@ -19,7 +18,7 @@ use crate::volume_reader::table_fault;
 use drive_states::Unit;
 use host_driver::Host;
 use qic_base::Tape;
-use segment_io::Workspace;
+use segment_io::{StoreFault, Workspace};
 use volume_table::{Entry, Table};
 
 /// Reads the table's segment, whose data have to show the list. The answer is the sectors that the tape may hold
@@ -70,7 +69,8 @@ pub fn settle_again<T: Tape>(
     ensures keeps { Keeps T.means host.new unit.old unit.new }
 {
     let unread = read_list(host, unit, work, table)?;
-    settle(host, unit, unread, work)
+    settle(host, unit, unread, work)?;
+    Ok(())
 }
 
 /// Reads the table's segment again, whose data have to show the list, and writes it with the entry in the next slot,
@@ -95,5 +95,6 @@ pub fn add_entry<T: Tape>(
     ensures keeps { Keeps T.means host.new unit.old unit.new }
 {
     read_list(host, unit, work, table)?;
-    write_entry(host, unit, entry, work, table)
+    write_entry(host, unit, entry, work, table)?;
+    Ok(())
 }

@@ -1,7 +1,7 @@
 //! The settling of the volume table: each sector of its segment that doesn't hold its part of the table's code block is
 //! written (this project's profile).
 
-ghost use Rattle.std.specs.Prelude.{◌≡◌, ◌<◌, ◌^◌, ◌==◌, ◌&&◌, ◌||◌, ◌++◌, ℕ, true, not, length, take, IsOkUnless};
+ghost use Rattle.std.specs.Prelude.{◌≡◌, ◌<◌, ◌^◌, ◌==◌, ◌&&◌, ◌||◌, ◌++◌, ℕ, true, not, length, take};
 ghost use Rattle.std.specs.Str.{bytes_eq};
 ghost use Rattle.qic_base.specs.TapeCalls.{Does};
 ghost use Rattle.qic117_commands.specs.Views.{is_primary};
@@ -10,13 +10,12 @@ ghost use Rattle.drive_spec.specs.Terms.{is_protected, is_referenced};
 ghost use Rattle.host_driver.specs.Calls.{IsReady, Keeps};
 ghost use Rattle.cartridge_front.specs.Settling.{collected_block, is_stale, mending_steps};
 
-use crate::fault::StoreFault;
 use crate::table_reader::{Unread, data_sectors};
 use crate::table_writer::write_places;
 use drive_states::Unit;
 use gf256_qic::DATA_SECTORS;
 use host_driver::Host;
-use qic_base::{LostSet, Sector, Tape};
+use qic_base::{LostSet, Sector, Tape, TapeFailed};
 use segment_io::Workspace;
 use segment_parity::parity_of;
 
@@ -71,7 +70,7 @@ pub fn settle<T: Tape>(
     unit: &mut Unit<T>,
     unread: Unread,
     work: &mut Workspace,
-) -> Result<(), StoreFault>
+) -> Result<(), TapeFailed>
     requires ready { IsReady T.means host.old unit.old }
     requires mode { is_primary unit.old.drive.deck.mode ≡ true }
     requires referenced { is_referenced unit.old.drive.deck ≡ true }
@@ -79,7 +78,6 @@ pub fn settle<T: Tape>(
     ensures did { Does T.means unit.old.tape unit.new.tape
         (mending_steps (is_protected unit.old.drive.deck) unread work.old) result }
     ensures data { take 29 work.new ≡ take 29 work.old }
-    ensures fault { IsOkUnless result StoreFault.Tape }
     ensures keeps { Keeps T.means host.new unit.old unit.new }
 {
     if host.protected() {

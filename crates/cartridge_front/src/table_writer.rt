@@ -1,6 +1,6 @@
 //! Sectors of the volume table's segment written, and the entry of a new volume.
 
-ghost use Rattle.std.specs.Prelude.{◌≡◌, ◌<◌, ◌^◌, ◌++◌, ◌∷◌, [], true, length, take, IsOkUnless};
+ghost use Rattle.std.specs.Prelude.{◌≡◌, ◌<◌, ◌^◌, ◌++◌, ◌∷◌, [], true, length, take};
 ghost use Rattle.qic_base.specs.TapeCalls.{Does};
 ghost use Rattle.cartridge_spec.specs.Appending.{table_writes};
 ghost use Rattle.cartridge_spec.specs.Says.{with_parity};
@@ -12,12 +12,11 @@ ghost use Rattle.host_driver.specs.Calls.{IsReady, MayWrite, Keeps};
 ghost use Rattle.cartridge_spec.specs.Settling.{block_writes};
 ghost use Rattle.volume_table.specs.Entry.{entry_of};
 
-use crate::fault::StoreFault;
 use drive_states::Unit;
 use gf256_qic::DATA_SECTORS;
 use host_driver::Host;
-use qic_base::{LostSet, Sector, Tape, WHOLE};
-use segment_io::{SegFault, Workspace, write_sectors};
+use qic_base::{LostSet, Sector, Tape, TapeFailed, WHOLE};
+use segment_io::{Workspace, write_sectors};
 use segment_parity::put_parity;
 use volume_table::{Entry, TABLE_SEGMENT, Table, TableFull};
 
@@ -72,26 +71,19 @@ pub(crate) fn write_places<T: Tape>(
     unit: &mut Unit<T>,
     places: LostSet,
     work: &Workspace,
-) -> Result<(), StoreFault>
+) -> Result<(), TapeFailed>
     requires ready { IsReady T.means host.old unit.old }
     requires referenced { is_referenced unit.old.drive.deck ≡ true }
     requires writable { MayWrite unit.old.drive.deck }
     requires within { places < 2 ^ 32 }
     ensures did { Does T.means unit.old.tape unit.new.tape
         (block_writes work.now (sectors_of places)) result }
-    ensures fault { IsOkUnless result StoreFault.Tape }
     ensures keeps { Keeps T.means host.new unit.old unit.new }
 {
     if places.mask() == 0 {
         return Ok(());
     }
-    match write_sectors(host, unit, TABLE_SEGMENT, WHOLE, places, work) {
-        Ok(()) => Ok(()),
-        Err(SegFault::Tape) => Err(StoreFault::Tape),
-        Err(SegFault::Lost { .. } | SegFault::Mismatch { .. }) => {
-            unreachable!("a write reads nothing")
-        }
-    }
+    write_sectors(host, unit, TABLE_SEGMENT, WHOLE, places, work)
 }
 
 /// Adds an entry to the list, and writes it into the table's segment, whose data stand in the workspace: first the
@@ -102,7 +94,7 @@ pub(crate) fn write_entry<T: Tape>(
     entry: &Entry,
     work: &mut Workspace,
     table: &mut Table,
-) -> Result<(), StoreFault>
+) -> Result<(), TapeFailed>
     requires ready { IsReady T.means host.old unit.old }
     requires referenced { is_referenced unit.old.drive.deck ≡ true }
     requires writable { MayWrite unit.old.drive.deck }
@@ -113,7 +105,6 @@ pub(crate) fn write_entry<T: Tape>(
         (slot_sector (length table.old))
         (with_slot (take 29 work.old) (length table.old) (slot_bytes (entry_of entry.now))))
         result }
-    ensures fault { IsOkUnless result StoreFault.Tape }
     ensures list { table.new ≡ table.old ++ entry_of entry.now ∷ [] }
     ensures shown { Shows
         (with_slot (take 29 work.old) (length table.old) (slot_bytes (entry_of entry.now)))

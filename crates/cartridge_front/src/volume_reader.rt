@@ -8,12 +8,11 @@ ghost use Rattle.host_driver.specs.Calls.{IsReady, Keeps};
 ghost use Rattle.host_driver.specs.Fits.{segments_of};
 ghost use Rattle.cartridge_front.specs.Finding.{Leaves, NamesCause, RefusesMounting, FindsVolumes, ShowsVolumes, DecodesTable, refusal_of};
 
-use crate::fault::StoreFault;
 use crate::table_reader::{Unread, data_sectors, read_table};
 use drive_states::Unit;
 use host_driver::Host;
 use qic_base::{ForeignField, Sector, TRACKS, Tape};
-use segment_io::{SegFault, Workspace};
+use segment_io::{SegFault, StoreFault, Workspace};
 use volume_table::{Table, TableFault};
 
 /// Why the table's segment has no data.

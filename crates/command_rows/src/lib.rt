@@ -1,5 +1,5 @@
 //! Commands over a source, a sink or a tape that fails, as tests: what they answer, what was printed, and what is left.
-//! Scripts and an append over inputs that end early or never.
+//! Scripts and an append over inputs that end early or never. Commands in working objects that their caller made.
 #![tactic(auto)]
 
 #[cfg(test)]
@@ -8,6 +8,8 @@ mod appends;
 mod faults;
 #[cfg(test)]
 mod pulses;
+#[cfg(test)]
+mod ready;
 #[cfg(test)]
 mod runs;
 #[cfg(test)]

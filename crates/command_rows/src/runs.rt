@@ -9,6 +9,16 @@ use std::alloc::Global;
 use std::process::Abort;
 use tape_cmd::{Status, run};
 
+/// The words of these texts.
+pub fn words_of(rt: &impl Abort, alloc: Global, text: &[&str]) -> Vec<String> {
+    let mut words = Vec::new(alloc);
+    for word in text {
+        let word = String::from_str(alloc, word).expect(rt, "memory");
+        words.push(word).expect(rt, "memory");
+    }
+    words
+}
+
 /// Runs the words over a unit, with this input.
 pub fn run_over<S: Source>(
     rt: &impl Abort,
@@ -18,12 +28,7 @@ pub fn run_over<S: Source>(
     source: &mut S,
     sink: &mut MemSink,
 ) -> Status {
-    let mut words = Vec::new(alloc);
-    for word in text {
-        let word = String::from_str(alloc, word).expect(rt, "memory");
-        words.push(word).expect(rt, "memory");
-    }
-    run(alloc, &words, unit, source, sink)
+    run(alloc, &words_of(rt, alloc, text), unit, source, sink)
 }
 
 /// Runs the words over a unit, with no input.

@@ -3,6 +3,6 @@
 
 mod inputs;
 mod making;
-mod runs;
+pub mod runs;
 mod stops;
 mod streams;

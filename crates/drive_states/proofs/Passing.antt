@@ -1,15 +1,16 @@
 -- Where the head is once it has passed several sectors of a segment.
 use Rattle.std.proofs.Common.{◌≡◌, ℕ, zero, suc, ◌+◌, ◌/◌, ◌%◌, ◌^◌, ◌<◌, Bool, true, false, ◌&&◌, not, if◌then◌else◌, add-one, refl}
-use Rattle.std.proofs.Common.{sym, ◌∙◌, arith, subst, List, [], Option, Some, None, IfSome, Err}
+use Rattle.std.proofs.Common.{sym, ◌∙◌, arith, subst, List, [], Option, Some, None, IfSome, Result, Ok, Err}
 use Rattle.std.proofs.lemmas.Bool.{eq-eqb, ne_eqb}
 use Rattle.std.proofs.Math.Bool.{and-false}
 use Rattle.qic_base.specs.CartridgeTerms.{IsLost, is_lost}
+use Rattle.qic_base.specs.declared.tape.TapeFailed.{TapeFailed}
 use Rattle.qic_base.specs.Tape.{Meaning}
 use Rattle.drive_spec.specs.declared.deck.Deck.{Deck}
 use Rattle.drive_spec.specs.declared.deck.Motion.{Motion}
 use Rattle.drive_spec.specs.Deck.{limit, is_streaming}
 use Rattle.drive_states.specs.declared.fault.FdcFault.{FdcFault}
-use Rattle.drive_states.specs.Reach.{last_passed, motion_behind, passed_all, Writes, WritesSectors}
+use Rattle.drive_states.specs.Reach.{last_passed, motion_behind, passed_all, refused_by, Writes, WritesSectors}
 use Rattle.drive_states.specs.Sound.{IsSound, IsInMotion}
 use Rattle.drive_states.specs.Typed.{is_seeking, TypedState, IsIn}
 use Rattle.drive_states.specs.Unit.{DeckAndTape}
@@ -85,8 +86,11 @@ IsIn-passed_all p d asked blank here streams = record {
 
 -- a write to a protected cartridge is refused as one of its first sector is
 pub refused-at : {T : Type 0} (m : Meaning T) (old new : DeckAndTape T) (s i segment index written : ℕ) (from : List (List ℕ))
-    (protected : Bool) (fault : FdcFault) → protected ≡ true → s ≡ segment → i ≡ index →
-    Writes m old new s i [] true (Err fault) → WritesSectors m old new segment index written from protected (Err fault)
-refused-at m old new s i segment index written from protected fault marked here at refused =
-    subst (λ (p : Bool). WritesSectors m old new segment index written from p (Err fault)) (sym marked)
-    (Writes-at m old new s i segment index [] true true (Err fault) refl here at refused)
+    (protected : Bool) (why : Result FdcFault TapeFailed) → protected ≡ true → s ≡ segment → i ≡ index →
+    Writes m old new s i [] true (refused_by why) → WritesSectors m old new segment index written from protected (refused_by why)
+refused-at m old new s i segment index written from protected (Ok fault) marked here at refused =
+    subst (λ (p : Bool). WritesSectors m old new segment index written from p (Ok (Err fault))) (sym marked)
+    (Writes-at m old new s i segment index [] true true (Ok (Err fault)) refl here at refused)
+refused-at m old new s i segment index written from protected (Err failed) marked here at refused =
+    subst (λ (p : Bool). WritesSectors m old new segment index written from p (Err failed)) (sym marked)
+    (Writes-at m old new s i segment index [] true true (Err failed) refl here at refused)

@@ -1,5 +1,5 @@
 -- Which typed state a command leads to.
-use Rattle.std.proofs.Common.{◌≡◌, ℕ, ◌+◌, ◌*◌, ◌<◌, ◌≤◌, Bool, true, false, ◌&&◌, List, Option, Some, None, Result, is_some, IsSomeAnd}
+use Rattle.std.proofs.Common.{◌≡◌, ℕ, ◌+◌, ◌*◌, ◌<◌, ◌≤◌, Bool, true, false, ◌&&◌, List, Option, Some, None, is_some, IsSomeAnd}
 use Rattle.std.proofs.Common.{if◌then◌else◌, nat_lt, refl, sym, ◌∙◌, arith, subst}
 use Rattle.std.proofs.lemmas.Bool.Decides.{nat_tests}
 use Rattle.std.proofs.lemmas.Nat.{mul-add-lt}
@@ -7,7 +7,6 @@ use Rattle.std.specs.Option.{option_map_or}
 use Rattle.qic_base.specs.Cartridge.{IsPlace}
 use Rattle.qic_base.specs.declared.tape.TapeInfo.{TapeInfo}
 use Rattle.qic_base.specs.Tape.{Meaning}
-use Rattle.drive_states.specs.declared.fault.FdcFault.{FdcFault}
 use Rattle.qic117_commands.specs.declared.command.Command.TheVariants.{LogicalForward}
 use Rattle.qic117_commands.specs.Refusals.{needs_cartridge}
 use Rattle.tape_geometry.specs.declared.geometry.FloppyAddr.{FloppyAddr}
@@ -19,7 +18,7 @@ use Rattle.drive_spec.specs.Deck.{segments_per_track, limit, is_stopped, is_stre
 use Rattle.drive_spec.specs.Terms.{refusal_of, run_on}
 use Rattle.drive_spec.specs.Effects.{accepted, ticked}
 use Rattle.drive_states.specs.Typed.{is_seeking, TypedState, IsIn, moved, seeking}
-use Rattle.drive_states.specs.Reach.{passed, StreamsTo, segment_of, Finds, Writes}
+use Rattle.drive_states.specs.Reach.{passed, StreamsTo, segment_of, Answer, Finds, Writes}
 use Rattle.drive_states.specs.Sound.{HasLength, IsSound}
 use Rattle.drive_states.specs.Unit.{Knows, DeckAndTape}
 use Rattle.drive_states.proofs.Bounds.{with_cartridge, before_limit, limit_within, IsSound-passed}
@@ -98,7 +97,7 @@ IsPlaceOf-here d size s streams known =
 
 -- what a write came to, said of its place
 pub Writes-at : {T : Type 0} (m : Meaning T) (old new : DeckAndTape T) (s i segment index : ℕ) (bytes : List ℕ) (b protected : Bool)
-    (result : Result (Unit {0}) FdcFault) →
+    (result : Answer (Unit {0})) →
     protected ≡ b → s ≡ segment → i ≡ index → Writes m old new s i bytes b result → Writes m old new segment index bytes protected result
 Writes-at m old new s i segment index bytes b protected result marked here at wrote =
     subst (λ (p : Bool). Writes m old new segment index bytes p result) (sym marked)
@@ -107,7 +106,7 @@ Writes-at m old new s i segment index bytes b protected result marked here at wr
 
 -- what a read came to, said of its place
 pub Finds-at : {T : Type 0} (m : Meaning T) (old new : DeckAndTape T) (s i segment index : ℕ) (into now : List ℕ)
-    (result : Result (Unit {0}) FdcFault) →
+    (result : Answer (Unit {0})) →
     s ≡ segment → i ≡ index → Finds m old new s i into now result → Finds m old new segment index into now result
 Finds-at m old new s i segment index into now result here at found =
     subst (λ (n : ℕ). Finds m old new n index into now result) here

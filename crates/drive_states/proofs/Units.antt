@@ -1,6 +1,6 @@
 -- What the calls of a unit keep true of it, and what they came to.
-use Rattle.std.proofs.Common.{◌≡◌, ℕ, ap, ◌∙◌, Bool, true, false, [], ◌∷◌, Option, Some, None, IfSome, IfOk, Result, Ok, Err, OnOk, OnErr}
-use Rattle.std.proofs.Common.{refl, sym, subst, arith}
+use Rattle.std.proofs.Common.{◌≡◌, ◌≢◌, ℕ, ap, ◌∙◌, Bool, true, false, [], ◌∷◌, Option, Some, None, IfSome, IfOk, Result, Ok, Err}
+use Rattle.std.proofs.Common.{OnOk, OnErr, refl, sym, subst, arith}
 use Rattle.qic_base.specs.declared.tape.TapeFailed.{TapeFailed}
 use Rattle.qic_base.specs.declared.tape.TapeInfo.{TapeInfo}
 use Rattle.qic_base.specs.Cartridge.{Cartridge, IsPlace, view_at}
@@ -19,12 +19,11 @@ use Rattle.drive_spec.specs.Deck.{is_streaming}
 use Rattle.drive_spec.specs.Record.{Record}
 use Rattle.drive_spec.specs.Row.{after_gap, moved_on, pulsed_row}
 use Rattle.drive_spec.specs.Steps.{gap_steps, train_changes}
-use Rattle.drive_states.specs.declared.fault.FdcFault.{FdcFault}
 use Rattle.drive_states.specs.declared.fault.FdcFault.TheVariants.{NoAddress}
 use Rattle.drive_states.specs.declared.fault.HandFault.{HandFault}
 use Rattle.drive_states.specs.declared.fault.HandFault.TheVariants.{Tape, NotBlank}
 use Rattle.drive_states.specs.Hand.{Wears, Spoils, IsPlaced, IsNotReached}
-use Rattle.drive_states.specs.Reach.{StreamsTo, ReachesNone, IsFormatting}
+use Rattle.drive_states.specs.Reach.{StreamsTo, ReachesNone, IsFormatting, Answer}
 use Rattle.drive_states.specs.Unreferenced.{without_reference}
 use Rattle.drive_states.specs.Sound.{IsSound, IsSoundRecord}
 use Rattle.drive_states.specs.Unit.{DeckAndTape, UnitView, Knows, IsSoundUnit}
@@ -75,20 +74,23 @@ unreached has_call d addr stopped segment index reaches = stands d.motion stoppe
     stands m e streams = let no : ⊥ = subst (λ (n : Motion). StreamsTo n index) e streams in no
 
 -- after a segment was formatted, or was not
-pub IsSoundUnit-formatted : {T E : Type 0} (m : Meaning T) (old new : UnitView T) (result : Result (Unit {0}) E) → IsSoundRecord old.drive →
-    (¬ (IsFormatting old.drive.deck) → new.drive ≡ old.drive) → OnOk result (new.drive ≡ moved_on old.drive) →
-    OnErr result (new.drive ≡ old.drive) →
+pub IsSoundUnit-formatted : {T : Type 0} (m : Meaning T) (old new : UnitView T) (result : Answer (Unit {0})) → IsSoundRecord old.drive →
+    (¬ (IsFormatting old.drive.deck) → new.drive ≡ old.drive) → (result ≡ Ok (Ok tt) → new.drive ≡ moved_on old.drive) →
+    (result ≢ Ok (Ok tt) → new.drive ≡ old.drive) →
     Knows new.drive.deck.cartridge (m.size new.tape) → IsSoundUnit m new
-IsSoundUnit-formatted {E = E} m old new result s unreached moved failed known = by_motion (is_streaming old.drive.deck.motion) refl
+IsSoundUnit-formatted m old new result s unreached moved stayed known = by_motion (is_streaming old.drive.deck.motion) refl
   where
-    by_answer : (answer : Result (Unit {0}) E) → OnOk answer (new.drive ≡ moved_on old.drive) → OnErr answer (new.drive ≡ old.drive) →
-        is_streaming old.drive.deck.motion ≡ true → IsSoundUnit m new
-    by_answer (Ok done) ok err streams =
-        record { drive = subst IsSoundRecord (sym ok) (IsSoundRecord-moved_on old.drive s streams); known = known }
-    by_answer (Err e) ok err streams = record { drive = subst IsSoundRecord (sym err) s; known = known }
+    by_answer : (answer : Answer (Unit {0})) → (answer ≡ Ok (Ok tt) → new.drive ≡ moved_on old.drive) →
+        (answer ≢ Ok (Ok tt) → new.drive ≡ old.drive) → is_streaming old.drive.deck.motion ≡ true → IsSoundUnit m new
+    by_answer (Ok (Ok done)) ok err streams =
+        record { drive = subst IsSoundRecord (sym (ok refl)) (IsSoundRecord-moved_on old.drive s streams); known = known }
+    by_answer (Ok (Err fault)) ok err streams =
+        record { drive = subst IsSoundRecord (sym (err (λ e. let yes = e in cc))) s; known = known }
+    by_answer (Err failed) ok err streams =
+        record { drive = subst IsSoundRecord (sym (err (λ e. let yes = e in cc))) s; known = known }
 
     by_motion : (b : Bool) → is_streaming old.drive.deck.motion ≡ b → IsSoundUnit m new
-    by_motion true streams = by_answer result moved failed streams
+    by_motion true streams = by_answer result moved stayed streams
     by_motion false stands =
         let none : ¬ (IsFormatting old.drive.deck) = λ formats. let yes = formats.streams in cc in
         record { drive = subst IsSoundRecord (sym (unreached none)) s; known = known }
@@ -151,9 +153,9 @@ either_way None p = tt
 either_way (Some a) p = p
 
 -- a format that was answered Ok was one that the drive has
-pub formats_if_ok : {P : Type 0} {done : Unit {0}} (d : Deck) (result : Result (Unit {0}) FdcFault) →
-    (¬ (IsFormatting d) → (result ≡ Err NoAddress) × P) →
-    result ≡ Ok done → IsFormatting d
+pub formats_if_ok : {P : Type 0} {done : Unit {0}} (d : Deck) (result : Answer (Unit {0})) →
+    (¬ (IsFormatting d) → (result ≡ Ok (Err NoAddress)) × P) →
+    result ≡ Ok (Ok done) → IsFormatting d
 formats_if_ok d result unreached ok = by_tests (is_format d.mode) (is_streaming d.motion) refl refl
   where
     by_tests : (a b : Bool) → is_format d.mode ≡ a → is_streaming d.motion ≡ b → IsFormatting d

@@ -7,6 +7,7 @@ use Rattle.qic_base.specs.Step.{write_sector, WriteSectors, FormatSegment}
 use Rattle.qic_base.specs.Tape.{Meaning, Done, Broke}
 use Rattle.qic_base.specs.TapeCalls.{Tells, ReadsSectors, KeepsOthers, chosen, AreBlank}
 use Rattle.qic_base.specs.declared.tape.SectorsRead.{SectorsRead}
+use Rattle.qic_base.specs.declared.tape.TapeFailed.{TapeFailed}
 use Rattle.qic_base.specs.declared.tape.SectorView.TheVariants as view
 use Rattle.qic117_commands.specs.declared.view.Mode.{Mode}
 use Rattle.qic117_commands.specs.declared.view.Mode.TheVariants.{Primary, Format, Verify}
@@ -19,7 +20,7 @@ use Rattle.drive_spec.specs.declared.deck.Motion.TheVariants.{Stopped, Streaming
 use Rattle.drive_spec.specs.Deck.{segments_per_track, is_streaming}
 use Rattle.drive_spec.specs.Terms.{run_on}
 use Rattle.drive_states.specs.declared.fault.FdcFault.{FdcFault}
-use Rattle.drive_states.specs.declared.fault.FdcFault.TheVariants.{NoAddress, Protected, Unreadable, Tape}
+use Rattle.drive_states.specs.declared.fault.FdcFault.TheVariants.{NoAddress, Protected, Unreadable}
 use Rattle.drive_states.specs.Unit.{DeckAndTape}
 
 -- which calls a mode has: sectors are read in Primary and Verify, written in Primary, and formatted in Format
@@ -80,18 +81,27 @@ pub record Stays {T : Type 0} (m : Meaning T) (old new : DeckAndTape T) : Type 0
   pub deck : new.deck ≡ old.deck
   pub tape : Done m old.tape new.tape []
 
+-- what a sector call answers: what it came to, or why the drive refuses it; or that the tape failed
+abbrev pub Answer : Type 0 → Type 0
+Answer A = Result (Result A FdcFault) TapeFailed
+
+-- why the drive refuses it, as the answer of such a call
+abbrev pub refused_by : {A : Type 0} → Result FdcFault TapeFailed → Answer A
+refused_by (Ok fault) = Ok (Err fault)
+refused_by (Err failed) = Err failed
+
 -- A read of a sector under the head, by its answer: the bytes that it held before are in into, those after in now.
 abbrev pub Finds : {T : Type 0} (m : Meaning T) (old new : DeckAndTape T) (segment index : ℕ) (into now : List ℕ) →
-    Result (Unit {0}) FdcFault → Type 0
-Finds m old new segment index into now (Ok done) =
+    Answer (Unit {0}) → Type 0
+Finds m old new segment index into now (Ok (Ok done)) =
     Passes m old new index × Tells m old.tape (λ c. view_at c segment index ≡ view.Holds now)
-Finds m old new segment index into now (Err NoAddress) =
+Finds m old new segment index into now (Ok (Err NoAddress)) =
     Stays m old new × (now ≡ into) × Tells m old.tape (λ c. view_at c segment index ≡ view.Blank)
-Finds m old new segment index into now (Err Protected) = ⊥
-Finds m old new segment index into now (Err Unreadable) =
+Finds m old new segment index into now (Ok (Err Protected)) = ⊥
+Finds m old new segment index into now (Ok (Err Unreadable)) =
     Passes m old new index × (now ≡ into)
     × Tells m old.tape (λ c. (view_at c segment index ≡ view.Lost) ⊎ (view_at c segment index ≡ view.Defect))
-Finds m old new segment index into now (Err Tape) =
+Finds m old new segment index into now (Err failed) =
     (new.deck ≡ old.deck) × Broke m old.tape new.tape [] × (now ≡ into)
 
 -- a sector that was formatted, or is a defect
@@ -101,23 +111,23 @@ IsFormatted m tape segment index = Tells m tape (λ c. ¬ (view_at c segment ind
 -- A write to a sector under the head, by its answer. A protected cartridge is only read, to learn whether the sector
 -- was formatted.
 abbrev pub Writes : {T : Type 0} (m : Meaning T) (old new : DeckAndTape T) (segment index : ℕ) (bytes : List ℕ) → (protected : Bool) →
-    Result (Unit {0}) FdcFault → Type 0
-Writes m old new segment index bytes false (Ok done) =
+    Answer (Unit {0}) → Type 0
+Writes m old new segment index bytes false (Ok (Ok done)) =
     (new.deck ≡ passed old.deck index) × Done m old.tape new.tape (write_sector segment index bytes ∷ [])
     × IsFormatted m old.tape segment index
-Writes m old new segment index bytes true (Ok done) = ⊥
-Writes m old new segment index bytes false (Err NoAddress) =
+Writes m old new segment index bytes true (Ok (Ok done)) = ⊥
+Writes m old new segment index bytes false (Ok (Err NoAddress)) =
     (new.deck ≡ old.deck) × Done m old.tape new.tape (write_sector segment index bytes ∷ [])
     × Tells m old.tape (λ c. view_at c segment index ≡ view.Blank)
-Writes m old new segment index bytes true (Err NoAddress) =
+Writes m old new segment index bytes true (Ok (Err NoAddress)) =
     Stays m old new × Tells m old.tape (λ c. view_at c segment index ≡ view.Blank)
-Writes m old new segment index bytes false (Err Protected) = ⊥
-Writes m old new segment index bytes true (Err Protected) =
+Writes m old new segment index bytes false (Ok (Err Protected)) = ⊥
+Writes m old new segment index bytes true (Ok (Err Protected)) =
     Stays m old new × IsFormatted m old.tape segment index
-Writes m old new segment index bytes protected (Err Unreadable) = ⊥
-Writes m old new segment index bytes false (Err Tape) =
+Writes m old new segment index bytes protected (Ok (Err Unreadable)) = ⊥
+Writes m old new segment index bytes false (Err failed) =
     (new.deck ≡ old.deck) × Broke m old.tape new.tape (write_sector segment index bytes ∷ [])
-Writes m old new segment index bytes true (Err Tape) =
+Writes m old new segment index bytes true (Err failed) =
     (new.deck ≡ old.deck) × Broke m old.tape new.tape []
 
 -- ---- several sectors of the segment under the head, by words with bit i for sector i
@@ -152,12 +162,12 @@ pub record PassesAll {T : Type 0} (m : Meaning T) (old new : DeckAndTape T) (seg
 -- A read of the wanted sectors of the segment under the head, from an index on, by its answer: the entries that were held
 -- before are in into, those after in now.
 abbrev pub FindsSectors : {T : Type 0} (m : Meaning T) (old new : DeckAndTape T) (segment index wanted : ℕ) (into now : List (List ℕ)) →
-    Result SectorsRead FdcFault → Type 0
-FindsSectors m old new segment index wanted into now (Ok read) = PassesAll m old new segment index wanted into now read
-FindsSectors m old new segment index wanted into now (Err NoAddress) = (new ≡ old) × (now ≡ into) × ¬ (AreFrom index wanted)
-FindsSectors m old new segment index wanted into now (Err Protected) = ⊥
-FindsSectors m old new segment index wanted into now (Err Unreadable) = ⊥
-FindsSectors m old new segment index wanted into now (Err Tape) =
+    Answer SectorsRead → Type 0
+FindsSectors m old new segment index wanted into now (Ok (Ok read)) = PassesAll m old new segment index wanted into now read
+FindsSectors m old new segment index wanted into now (Ok (Err NoAddress)) = (new ≡ old) × (now ≡ into) × ¬ (AreFrom index wanted)
+FindsSectors m old new segment index wanted into now (Ok (Err Protected)) = ⊥
+FindsSectors m old new segment index wanted into now (Ok (Err Unreadable)) = ⊥
+FindsSectors m old new segment index wanted into now (Err failed) =
     (new.deck ≡ old.deck) × Broke m old.tape new.tape [] × (now ≡ into)
 
 -- the sectors were written that aren't blank, and the head has passed them
@@ -171,22 +181,23 @@ pub record WritesAll {T : Type 0} (m : Meaning T) (old new : DeckAndTape T) (seg
 -- A write to sectors of the segment under the head, from an index on, by its answer. A protected cartridge refuses it as a
 -- write of the first of them.
 abbrev pub WritesSectors : {T : Type 0} (m : Meaning T) (old new : DeckAndTape T) (segment index written : ℕ) (from : List (List ℕ)) →
-    (protected : Bool) → Result ℕ FdcFault → Type 0
-WritesSectors m old new segment index written from false (Ok blank) = WritesAll m old new segment index written from blank
-WritesSectors m old new segment index written from true (Ok blank) = ⊥
-WritesSectors m old new segment index written from false (Err NoAddress) = (new ≡ old) × ¬ (AreFrom index written)
-WritesSectors m old new segment index written from false (Err Protected) = ⊥
-WritesSectors m old new segment index written from false (Err Unreadable) = ⊥
-WritesSectors m old new segment index written from false (Err Tape) =
+    (protected : Bool) → Answer ℕ → Type 0
+WritesSectors m old new segment index written from false (Ok (Ok blank)) = WritesAll m old new segment index written from blank
+WritesSectors m old new segment index written from true (Ok (Ok blank)) = ⊥
+WritesSectors m old new segment index written from false (Ok (Err NoAddress)) = (new ≡ old) × ¬ (AreFrom index written)
+WritesSectors m old new segment index written from false (Ok (Err Protected)) = ⊥
+WritesSectors m old new segment index written from false (Ok (Err Unreadable)) = ⊥
+WritesSectors m old new segment index written from false (Err failed) =
     (new.deck ≡ old.deck) × Broke m old.tape new.tape (WriteSectors segment (chosen written from) ∷ [])
-WritesSectors m old new segment index written from true (Err fault) = Writes m old new segment index [] true (Err fault)
+WritesSectors m old new segment index written from true (Ok (Err fault)) = Writes m old new segment index [] true (Ok (Err fault))
+WritesSectors m old new segment index written from true (Err failed) = Writes m old new segment index [] true (Err failed)
 
 -- A format of the segment under the head, by its answer: the head moves on.
-abbrev pub Formats : {T : Type 0} (m : Meaning T) (old new : DeckAndTape T) → Result (Unit {0}) FdcFault → Type 0
-Formats m old new (Ok done) =
+abbrev pub Formats : {T : Type 0} (m : Meaning T) (old new : DeckAndTape T) → Answer (Unit {0}) → Type 0
+Formats m old new (Ok (Ok done)) =
     (new.deck ≡ run_on old.deck) × Done m old.tape new.tape (FormatSegment (segment_of old.deck) ∷ [])
-Formats m old new (Err NoAddress) = ⊥
-Formats m old new (Err Protected) = ⊥
-Formats m old new (Err Unreadable) = ⊥
-Formats m old new (Err Tape) =
+Formats m old new (Ok (Err NoAddress)) = ⊥
+Formats m old new (Ok (Err Protected)) = ⊥
+Formats m old new (Ok (Err Unreadable)) = ⊥
+Formats m old new (Err failed) =
     (new.deck ≡ old.deck) × Broke m old.tape new.tape (FormatSegment (segment_of old.deck) ∷ [])

@@ -193,9 +193,13 @@ impl<T: Tape> AnyDrive<T> {
     }
 
     /// Reads the sector at an address, in a state that has the call.
-    pub fn read_sector(&mut self, addr: FloppyAddr, into: &mut Sector) -> Result<(), FdcFault>
+    pub fn read_sector(
+        &mut self,
+        addr: FloppyAddr,
+        into: &mut Sector,
+    ) -> Result<Result<(), FdcFault>, TapeFailed>
         ensures unreached { ReachesNone reads_in (drive_of self.old).deck addr →
-            (result ≡ Err FdcFault.NoAddress) × (self.new ≡ self.old) × (into.new ≡ into.old) }
+            (result ≡ Ok (Err FdcFault.NoAddress)) × (self.new ≡ self.old) × (into.new ≡ into.old) }
         ensures reached { (segment index : ℕ) → Reaches reads_in (drive_of self.old).deck addr segment index →
             Finds T.means (drive_of self.old) (drive_of self.new) segment index into.old into.new result }
         ensures size { T.means.size (drive_of self.new).tape ≡ T.means.size (drive_of self.old).tape }
@@ -204,14 +208,18 @@ impl<T: Tape> AnyDrive<T> {
         match self {
             AnyDrive::Primary(drive) => drive.read_sector(addr, into),
             AnyDrive::Verify(drive) => drive.read_sector(addr, into),
-            _ => Err(FdcFault::NoAddress),
+            _ => Ok(Err(FdcFault::NoAddress)),
         }
     }
 
     /// Writes the sector at an address, in a state that has the call.
-    pub fn write_sector(&mut self, addr: FloppyAddr, from: &Sector) -> Result<(), FdcFault>
+    pub fn write_sector(
+        &mut self,
+        addr: FloppyAddr,
+        from: &Sector,
+    ) -> Result<Result<(), FdcFault>, TapeFailed>
         ensures unreached { ReachesNone is_primary (drive_of self.old).deck addr →
-            (result ≡ Err FdcFault.NoAddress) × (self.new ≡ self.old) }
+            (result ≡ Ok (Err FdcFault.NoAddress)) × (self.new ≡ self.old) }
         ensures reached { (segment index : ℕ) → Reaches is_primary (drive_of self.old).deck addr segment index →
             Writes T.means (drive_of self.old) (drive_of self.new) segment index from.now
             (is_protected (drive_of self.old).deck) result }
@@ -220,7 +228,7 @@ impl<T: Tape> AnyDrive<T> {
         self.reveal();
         match self {
             AnyDrive::Primary(drive) => drive.write_sector(addr, from),
-            _ => Err(FdcFault::NoAddress),
+            _ => Ok(Err(FdcFault::NoAddress)),
         }
     }
 
@@ -230,9 +238,9 @@ impl<T: Tape> AnyDrive<T> {
         addr: FloppyAddr,
         wanted: LostSet,
         into: &mut [Sector; 32],
-    ) -> Result<SectorsRead, FdcFault>
+    ) -> Result<Result<SectorsRead, FdcFault>, TapeFailed>
         ensures unreached { ReachesNone reads_in (drive_of self.old).deck addr →
-            (result ≡ Err FdcFault.NoAddress) × (self.new ≡ self.old) × (into.new ≡ into.old) }
+            (result ≡ Ok (Err FdcFault.NoAddress)) × (self.new ≡ self.old) × (into.new ≡ into.old) }
         ensures reached { (segment index : ℕ) → Reaches reads_in (drive_of self.old).deck addr segment index →
             FindsSectors T.means (drive_of self.old) (drive_of self.new) segment index wanted into.old into.new result }
         ensures size { T.means.size (drive_of self.new).tape ≡ T.means.size (drive_of self.old).tape }
@@ -241,7 +249,7 @@ impl<T: Tape> AnyDrive<T> {
         match self {
             AnyDrive::Primary(drive) => drive.read_sectors(addr, wanted, into),
             AnyDrive::Verify(drive) => drive.read_sectors(addr, wanted, into),
-            _ => Err(FdcFault::NoAddress),
+            _ => Ok(Err(FdcFault::NoAddress)),
         }
     }
 
@@ -251,9 +259,9 @@ impl<T: Tape> AnyDrive<T> {
         addr: FloppyAddr,
         written: LostSet,
         from: &[Sector; 32],
-    ) -> Result<LostSet, FdcFault>
+    ) -> Result<Result<LostSet, FdcFault>, TapeFailed>
         ensures unreached { ReachesNone is_primary (drive_of self.old).deck addr →
-            (result ≡ Err FdcFault.NoAddress) × (self.new ≡ self.old) }
+            (result ≡ Ok (Err FdcFault.NoAddress)) × (self.new ≡ self.old) }
         ensures reached { (segment index : ℕ) → Reaches is_primary (drive_of self.old).deck addr segment index →
             WritesSectors T.means (drive_of self.old) (drive_of self.new) segment index written from.now
             (is_protected (drive_of self.old).deck) result }
@@ -262,14 +270,14 @@ impl<T: Tape> AnyDrive<T> {
         self.reveal();
         match self {
             AnyDrive::Primary(drive) => drive.write_sectors(addr, written, from),
-            _ => Err(FdcFault::NoAddress),
+            _ => Ok(Err(FdcFault::NoAddress)),
         }
     }
 
     /// Formats the segment under the head, in a state that has the call.
-    pub fn format_segment(&mut self) -> Result<(), FdcFault>
+    pub fn format_segment(&mut self) -> Result<Result<(), FdcFault>, TapeFailed>
         ensures unreached { ¬ (IsFormatting (drive_of self.old).deck) →
-            (result ≡ Err FdcFault.NoAddress) × (self.new ≡ self.old) }
+            (result ≡ Ok (Err FdcFault.NoAddress)) × (self.new ≡ self.old) }
         ensures reached { IsFormatting (drive_of self.old).deck →
             Formats T.means (drive_of self.old) (drive_of self.new) result }
         ensures size { T.means.size (drive_of self.new).tape ≡ T.means.size (drive_of self.old).tape }
@@ -277,7 +285,7 @@ impl<T: Tape> AnyDrive<T> {
         self.reveal();
         match self {
             AnyDrive::Format(drive) => drive.format_segment(),
-            _ => Err(FdcFault::NoAddress),
+            _ => Ok(Err(FdcFault::NoAddress)),
         }
     }
 

@@ -234,20 +234,25 @@ impl<T: Tape> Dialogue<T> {
     }
 
     /// Formats the segment under the head, and the head moves on.
-    pub fn format_segment(&mut self) -> Result<(), FdcFault>
+    pub fn format_segment(&mut self) -> Result<Result<(), FdcFault>, TapeFailed>
         ensures unreached { ¬ (IsFormatting (record_of self.old).deck) →
-            (result ≡ Err FdcFault.NoAddress) × (self.new ≡ self.old) }
+            (result ≡ Ok (Err FdcFault.NoAddress)) × (self.new ≡ self.old) }
         ensures reached { IsFormatting (record_of self.old).deck →
             Formats T.means (drive_of self.old.drive) (drive_of self.new.drive) result }
-        ensures moved { OnOk result (record_of self.new ≡ moved_on (record_of self.old)) }
-        ensures failed { OnErr result (record_of self.new ≡ record_of self.old) }
+        ensures moved { result ≡ Ok (Ok tt) → record_of self.new ≡ moved_on (record_of self.old) }
+        ensures stayed { result ≢ Ok (Ok tt) → record_of self.new ≡ record_of self.old }
         ensures size { T.means.size (unit_of self.new).tape ≡ T.means.size (unit_of self.old).tape }
     {
         let early = ends_early(&self.drive.deck());
-        self.drive.format_segment()?;
-        if early {
-            self.under_way = UnderWay::Nothing;
+        match self.drive.format_segment() {
+            Ok(Ok(())) => {
+                if early {
+                    self.under_way = UnderWay::Nothing;
+                }
+                Ok(Ok(()))
+            }
+            Ok(Err(fault)) => Ok(Err(fault)),
+            Err(TapeFailed) => Err(TapeFailed),
         }
-        Ok(())
     }
 }

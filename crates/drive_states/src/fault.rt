@@ -1,6 +1,7 @@
 //! Why a sector call, or what a person does to the cartridge, came to nothing.
 
-/// Why a sector call was refused. The first that holds is answered, but a tape that fails first is answered at once.
+/// Why the drive refuses a sector call: the first that holds is answered. A call that the tape failed in answers that
+/// instead, so its answer is a result within a result.
 #[derive(Clone, Copy, Debug, PartialEq, Eq)]
 pub enum FdcFault {
     /// The mode has no such call, the tape does not stream, the address is not that of a sector of the segment under
@@ -10,8 +11,6 @@ pub enum FdcFault {
     Protected,
     /// The sector is a defect or lost; the head has passed it.
     Unreadable,
-    /// The tape failed.
-    Tape,
 }
 
 /// Why what a person did to the cartridge came to nothing. The first that holds is answered.

@@ -6,7 +6,7 @@ ghost use Rattle.qic_base.specs.TapeCalls.{IsPlaceOf};
 ghost use Rattle.drive_spec.specs.Deck.{is_streaming};
 ghost use Rattle.drive_spec.specs.Terms.{is_protected};
 ghost use Rattle.drive_states.specs.Reach.{reads_in, Reaches, ReachesNone, IsFormatting, Finds, Writes, Formats, HasAddressIn, HasNoAddressIn, StreamsTo, passed};
-ghost use Rattle.drive_states.specs.Reach.{FindsSectors, WritesSectors, AreFrom, passed_all};
+ghost use Rattle.drive_states.specs.Reach.{FindsSectors, WritesSectors, AreFrom, passed_all, refused_by};
 ghost use Rattle.drive_states.specs.Sound.{IsSound};
 
 use crate::deck::{is_protected, is_streaming, segment_of};
@@ -70,21 +70,30 @@ impl<S: State, T: Tape> Drive<S, T> {
 impl<M: Reads, T: Tape> Drive<M, T> {
     /// Reads the sector at an address; where it answers Ok or Unreadable, the head has passed it. `into` is unchanged
     /// unless the answer is Ok.
-    pub fn read_sector(&mut self, addr: FloppyAddr, into: &mut Sector) -> Result<(), FdcFault>
+    pub fn read_sector(
+        &mut self,
+        addr: FloppyAddr,
+        into: &mut Sector,
+    ) -> Result<Result<(), FdcFault>, TapeFailed>
         ensures unreached { ReachesNone reads_in self.old.deck addr →
-            (result ≡ Err FdcFault.NoAddress) × (self.new ≡ self.old) × (into.new ≡ into.old) }
+            (result ≡ Ok (Err FdcFault.NoAddress)) × (self.new ≡ self.old) × (into.new ≡ into.old) }
         ensures reached { (segment index : ℕ) → Reaches reads_in self.old.deck addr segment index →
             Finds T.means self.old self.new segment index into.old into.new result }
         ensures size { T.means.size self.new.tape ≡ T.means.size self.old.tape }
     {
         let Some((segment, index)) = reach(&self.deck, addr) else {
-            return Err(FdcFault::NoAddress);
+            return Ok(Err(FdcFault::NoAddress));
         };
         self.read_under(segment, index, into)
     }
 
     /// Reads a sector of the segment under the head, which has not passed it.
-    fn read_under(&mut self, segment: u32, index: u8, into: &mut Sector) -> Result<(), FdcFault>
+    fn read_under(
+        &mut self,
+        segment: u32,
+        index: u8,
+        into: &mut Sector,
+    ) -> Result<Result<(), FdcFault>, TapeFailed>
         requires place { IsPlaceOf T.means self.old.tape segment index }
         requires fits { index < 32 }
         requires streams { StreamsTo self.old.deck.motion index }
@@ -94,14 +103,14 @@ impl<M: Reads, T: Tape> Drive<M, T> {
         match read_sector(&mut self.tape, segment, index, into) {
             Ok(SectorRead::Good) => {
                 self.pass(index);
-                Ok(())
+                Ok(Ok(()))
             }
             Ok(SectorRead::Lost) => {
                 self.pass(index);
-                Err(FdcFault::Unreadable)
+                Ok(Err(FdcFault::Unreadable))
             }
-            Ok(SectorRead::Blank) => Err(FdcFault::NoAddress),
-            Err(TapeFailed) => Err(FdcFault::Tape),
+            Ok(SectorRead::Blank) => Ok(Err(FdcFault::NoAddress)),
+            Err(TapeFailed) => Err(TapeFailed),
         }
     }
 
@@ -112,18 +121,18 @@ impl<M: Reads, T: Tape> Drive<M, T> {
         addr: FloppyAddr,
         wanted: LostSet,
         into: &mut [Sector; 32],
-    ) -> Result<SectorsRead, FdcFault>
+    ) -> Result<Result<SectorsRead, FdcFault>, TapeFailed>
         ensures unreached { ReachesNone reads_in self.old.deck addr →
-            (result ≡ Err FdcFault.NoAddress) × (self.new ≡ self.old) × (into.new ≡ into.old) }
+            (result ≡ Ok (Err FdcFault.NoAddress)) × (self.new ≡ self.old) × (into.new ≡ into.old) }
         ensures reached { (segment index : ℕ) → Reaches reads_in self.old.deck addr segment index →
             FindsSectors T.means self.old self.new segment index wanted into.old into.new result }
         ensures size { T.means.size self.new.tape ≡ T.means.size self.old.tape }
     {
         let Some((segment, index)) = reach(&self.deck, addr) else {
-            return Err(FdcFault::NoAddress);
+            return Ok(Err(FdcFault::NoAddress));
         };
         if !are_from(index, wanted) {
-            return Err(FdcFault::NoAddress);
+            return Ok(Err(FdcFault::NoAddress));
         }
         self.read_from(segment, index, wanted, into)
     }
@@ -135,7 +144,7 @@ impl<M: Reads, T: Tape> Drive<M, T> {
         index: u8,
         wanted: LostSet,
         into: &mut [Sector; 32],
-    ) -> Result<SectorsRead, FdcFault>
+    ) -> Result<Result<SectorsRead, FdcFault>, TapeFailed>
         requires place { IsPlaceOf T.means self.old.tape segment 0 }
         requires first { AreFrom index wanted }
         requires streams { is_streaming self.old.deck.motion ≡ true }
@@ -145,49 +154,60 @@ impl<M: Reads, T: Tape> Drive<M, T> {
         match self.tape.read_sectors(segment, wanted, into) {
             Ok(read) => {
                 self.pass_all(wanted, read.blank);
-                Ok(read)
+                Ok(Ok(read))
             }
-            Err(TapeFailed) => Err(FdcFault::Tape),
+            Err(TapeFailed) => Err(TapeFailed),
         }
     }
 }
 
 impl<T: Tape> Drive<Primary, T> {
-    /// Why a protected sector under the head isn't written: it was never formatted, the mark, or a fault of the tape
-    /// that kept the drive from telling.
-    fn refuse_write(&mut self, segment: u32, index: u8) -> FdcFault
+    /// Why a protected sector under the head isn't written: it was never formatted, or the mark.
+    fn refuse_write(&mut self, segment: u32, index: u8) -> Result<FdcFault, TapeFailed>
         requires { IsPlaceOf T.means self.old.tape segment index }
         ensures refused { (bytes : List ℕ) →
-            Writes T.means self.old self.new segment index bytes true (Err result) }
+            Writes T.means self.old self.new segment index bytes true (refused_by result) }
         ensures size { T.means.size self.new.tape ≡ T.means.size self.old.tape }
     {
         let mut found = [0; SECTOR];
         match read_sector(&mut self.tape, segment, index, &mut found) {
-            Ok(SectorRead::Good | SectorRead::Lost) => FdcFault::Protected,
-            Ok(SectorRead::Blank) => FdcFault::NoAddress,
-            Err(TapeFailed) => FdcFault::Tape,
+            Ok(SectorRead::Good | SectorRead::Lost) => Ok(FdcFault::Protected),
+            Ok(SectorRead::Blank) => Ok(FdcFault::NoAddress),
+            Err(TapeFailed) => Err(TapeFailed),
         }
     }
 
     /// Writes the sector at an address; where it answers Ok, the head has passed it.
-    pub fn write_sector(&mut self, addr: FloppyAddr, from: &Sector) -> Result<(), FdcFault>
+    pub fn write_sector(
+        &mut self,
+        addr: FloppyAddr,
+        from: &Sector,
+    ) -> Result<Result<(), FdcFault>, TapeFailed>
         ensures unreached { ReachesNone is_primary self.old.deck addr →
-            (result ≡ Err FdcFault.NoAddress) × (self.new ≡ self.old) }
+            (result ≡ Ok (Err FdcFault.NoAddress)) × (self.new ≡ self.old) }
         ensures reached { (segment index : ℕ) → Reaches is_primary self.old.deck addr segment index →
             Writes T.means self.old self.new segment index from.now (is_protected self.old.deck) result }
         ensures size { T.means.size self.new.tape ≡ T.means.size self.old.tape }
     {
         let Some((segment, index)) = reach(&self.deck, addr) else {
-            return Err(FdcFault::NoAddress);
+            return Ok(Err(FdcFault::NoAddress));
         };
         if is_protected(&self.deck) {
-            return Err(self.refuse_write(segment, index));
+            return match self.refuse_write(segment, index) {
+                Ok(fault) => Ok(Err(fault)),
+                Err(TapeFailed) => Err(TapeFailed),
+            };
         }
         self.write_under(segment, index, from)
     }
 
     /// Writes a sector of the segment under the head, which has not passed it; the cartridge is not protected.
-    fn write_under(&mut self, segment: u32, index: u8, from: &Sector) -> Result<(), FdcFault>
+    fn write_under(
+        &mut self,
+        segment: u32,
+        index: u8,
+        from: &Sector,
+    ) -> Result<Result<(), FdcFault>, TapeFailed>
         requires place { IsPlaceOf T.means self.old.tape segment index }
         requires fits { index < 32 }
         requires streams { StreamsTo self.old.deck.motion index }
@@ -197,10 +217,10 @@ impl<T: Tape> Drive<Primary, T> {
         match write_sector(&mut self.tape, segment, index, from) {
             Ok(SectorWrite::Taken) => {
                 self.pass(index);
-                Ok(())
+                Ok(Ok(()))
             }
-            Ok(SectorWrite::Blank) => Err(FdcFault::NoAddress),
-            Err(TapeFailed) => Err(FdcFault::Tape),
+            Ok(SectorWrite::Blank) => Ok(Err(FdcFault::NoAddress)),
+            Err(TapeFailed) => Err(TapeFailed),
         }
     }
 
@@ -211,21 +231,24 @@ impl<T: Tape> Drive<Primary, T> {
         addr: FloppyAddr,
         written: LostSet,
         from: &[Sector; 32],
-    ) -> Result<LostSet, FdcFault>
+    ) -> Result<Result<LostSet, FdcFault>, TapeFailed>
         ensures unreached { ReachesNone is_primary self.old.deck addr →
-            (result ≡ Err FdcFault.NoAddress) × (self.new ≡ self.old) }
+            (result ≡ Ok (Err FdcFault.NoAddress)) × (self.new ≡ self.old) }
         ensures reached { (segment index : ℕ) → Reaches is_primary self.old.deck addr segment index →
             WritesSectors T.means self.old self.new segment index written from.now (is_protected self.old.deck) result }
         ensures size { T.means.size self.new.tape ≡ T.means.size self.old.tape }
     {
         let Some((segment, index)) = reach(&self.deck, addr) else {
-            return Err(FdcFault::NoAddress);
+            return Ok(Err(FdcFault::NoAddress));
         };
         if is_protected(&self.deck) {
-            return Err(self.refuse_write(segment, index));
+            return match self.refuse_write(segment, index) {
+                Ok(fault) => Ok(Err(fault)),
+                Err(TapeFailed) => Err(TapeFailed),
+            };
         }
         if !are_from(index, written) {
-            return Err(FdcFault::NoAddress);
+            return Ok(Err(FdcFault::NoAddress));
         }
         self.write_from(segment, index, written, from)
     }
@@ -238,7 +261,7 @@ impl<T: Tape> Drive<Primary, T> {
         index: u8,
         written: LostSet,
         from: &[Sector; 32],
-    ) -> Result<LostSet, FdcFault>
+    ) -> Result<Result<LostSet, FdcFault>, TapeFailed>
         requires place { IsPlaceOf T.means self.old.tape segment 0 }
         requires first { AreFrom index written }
         requires streams { is_streaming self.old.deck.motion ≡ true }
@@ -248,30 +271,30 @@ impl<T: Tape> Drive<Primary, T> {
         match self.tape.write_sectors(segment, written, from) {
             Ok(blank) => {
                 self.pass_all(written, blank);
-                Ok(blank)
+                Ok(Ok(blank))
             }
-            Err(TapeFailed) => Err(FdcFault::Tape),
+            Err(TapeFailed) => Err(TapeFailed),
         }
     }
 }
 
 impl<T: Tape> Drive<Format, T> {
     /// Formats the segment under the head, and the head moves on.
-    pub fn format_segment(&mut self) -> Result<(), FdcFault>
+    pub fn format_segment(&mut self) -> Result<Result<(), FdcFault>, TapeFailed>
         ensures unreached { ¬ (IsFormatting self.old.deck) →
-            (result ≡ Err FdcFault.NoAddress) × (self.new ≡ self.old) }
+            (result ≡ Ok (Err FdcFault.NoAddress)) × (self.new ≡ self.old) }
         ensures reached { IsFormatting self.old.deck → Formats T.means self.old self.new result }
         ensures size { T.means.size self.new.tape ≡ T.means.size self.old.tape }
     {
         if !is_streaming(&self.deck) {
-            return Err(FdcFault::NoAddress);
+            return Ok(Err(FdcFault::NoAddress));
         }
         match self.tape.format_segment(segment_of(&self.deck)) {
             Ok(()) => {
                 self.deck = run_on(self.deck);
-                Ok(())
+                Ok(Ok(()))
             }
-            Err(TapeFailed) => Err(FdcFault::Tape),
+            Err(TapeFailed) => Err(TapeFailed),
         }
     }
 }

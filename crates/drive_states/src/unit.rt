@@ -1,6 +1,6 @@
 //! The drive as its cable and a person's hand reach it.
 
-ghost use Rattle.std.specs.Prelude.{◌≡◌, ℕ, [], ◌∷◌, None, OnOk, OnErr, IfOk, IfNone, IfSome};
+ghost use Rattle.std.specs.Prelude.{◌≡◌, ℕ, [], ◌∷◌, None, ◌≢◌, OnErr, OnOk, IfOk, IfNone, IfSome};
 ghost use Rattle.qic_base.specs.Cartridge.{IsLength, IsPlace};
 ghost use Rattle.qic_base.specs.Step.{Renew, SetProtected, SetReferenced};
 ghost use Rattle.qic_base.specs.TapeCalls.{Does, IsPlaceOf};
@@ -111,10 +111,14 @@ impl<T: Tape> Unit<T> {
 
     /// Reads the sector at an address; where it answers Ok or Unreadable, the head has passed it. `into` is unchanged
     /// unless the answer is Ok.
-    pub fn read_sector(&mut self, addr: FloppyAddr, into: &mut Sector) -> Result<(), FdcFault>
+    pub fn read_sector(
+        &mut self,
+        addr: FloppyAddr,
+        into: &mut Sector,
+    ) -> Result<Result<(), FdcFault>, TapeFailed>
         // Where the head can reach no sector with that address, nothing is done.
         ensures unreached { ReachesNone reads_in self.old.drive.deck addr →
-            (result ≡ Err FdcFault.NoAddress) × (self.new ≡ self.old) × (into.new ≡ into.old) }
+            (result ≡ Ok (Err FdcFault.NoAddress)) × (self.new ≡ self.old) × (into.new ≡ into.old) }
         // Where it can reach one, the answer is what that sector is.
         ensures reached { (segment index : ℕ) → Reaches reads_in self.old.drive.deck addr segment index →
             Finds T.means (held self.old) (held self.new) segment index into.old into.new result }
@@ -128,9 +132,13 @@ impl<T: Tape> Unit<T> {
     }
 
     /// Writes the sector at an address; where it answers Ok, the head has passed it.
-    pub fn write_sector(&mut self, addr: FloppyAddr, from: &Sector) -> Result<(), FdcFault>
+    pub fn write_sector(
+        &mut self,
+        addr: FloppyAddr,
+        from: &Sector,
+    ) -> Result<Result<(), FdcFault>, TapeFailed>
         ensures unreached { ReachesNone is_primary self.old.drive.deck addr →
-            (result ≡ Err FdcFault.NoAddress) × (self.new ≡ self.old) }
+            (result ≡ Ok (Err FdcFault.NoAddress)) × (self.new ≡ self.old) }
         ensures reached { (segment index : ℕ) → Reaches is_primary self.old.drive.deck addr segment index →
             Writes T.means (held self.old) (held self.new) segment index from.now
             (is_protected self.old.drive.deck) result }
@@ -151,10 +159,10 @@ impl<T: Tape> Unit<T> {
         addr: FloppyAddr,
         wanted: LostSet,
         into: &mut [Sector; 32],
-    ) -> Result<SectorsRead, FdcFault>
+    ) -> Result<Result<SectorsRead, FdcFault>, TapeFailed>
         // Where the head can reach no sector with that address, nothing is done.
         ensures unreached { ReachesNone reads_in self.old.drive.deck addr →
-            (result ≡ Err FdcFault.NoAddress) × (self.new ≡ self.old) × (into.new ≡ into.old) }
+            (result ≡ Ok (Err FdcFault.NoAddress)) × (self.new ≡ self.old) × (into.new ≡ into.old) }
         // Where it can reach one, the answer is what the wanted sectors are.
         ensures reached { (segment index : ℕ) → Reaches reads_in self.old.drive.deck addr segment index →
             FindsSectors T.means (held self.old) (held self.new) segment index wanted into.old into.new result }
@@ -175,9 +183,9 @@ impl<T: Tape> Unit<T> {
         addr: FloppyAddr,
         written: LostSet,
         from: &[Sector; 32],
-    ) -> Result<LostSet, FdcFault>
+    ) -> Result<Result<LostSet, FdcFault>, TapeFailed>
         ensures unreached { ReachesNone is_primary self.old.drive.deck addr →
-            (result ≡ Err FdcFault.NoAddress) × (self.new ≡ self.old) }
+            (result ≡ Ok (Err FdcFault.NoAddress)) × (self.new ≡ self.old) }
         ensures reached { (segment index : ℕ) → Reaches is_primary self.old.drive.deck addr segment index →
             WritesSectors T.means (held self.old) (held self.new) segment index written from.now
             (is_protected self.old.drive.deck) result }
@@ -191,13 +199,13 @@ impl<T: Tape> Unit<T> {
     }
 
     /// Formats the segment under the head, and the head moves on.
-    pub fn format_segment(&mut self) -> Result<(), FdcFault>
+    pub fn format_segment(&mut self) -> Result<Result<(), FdcFault>, TapeFailed>
         ensures unreached { ¬ (IsFormatting self.old.drive.deck) →
-            (result ≡ Err FdcFault.NoAddress) × (self.new ≡ self.old) }
+            (result ≡ Ok (Err FdcFault.NoAddress)) × (self.new ≡ self.old) }
         ensures reached { IsFormatting self.old.drive.deck →
             Formats T.means (held self.old) (held self.new) result }
-        ensures moved { OnOk result (self.new.drive ≡ moved_on self.old.drive) }
-        ensures failed { OnErr result (self.new.drive ≡ self.old.drive) }
+        ensures moved { result ≡ Ok (Ok tt) → self.new.drive ≡ moved_on self.old.drive }
+        ensures stayed { result ≢ Ok (Ok tt) → self.new.drive ≡ self.old.drive }
         ensures size { T.means.size self.new.tape ≡ T.means.size self.old.tape }
         ensures sound { IsSoundUnit T.means self.new }
     {

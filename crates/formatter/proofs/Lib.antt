@@ -1,4 +1,5 @@
 pub mod Copies
+pub mod Keeping
 pub mod Marks
 pub mod Parts
 pub mod Places

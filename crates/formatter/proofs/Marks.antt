@@ -1,10 +1,12 @@
 -- The map of the unreadable sectors, sector by sector.
 use Rattle.std.proofs.Common.{refl, ◌≡◌, ◌≢◌, ◌↔◌, ℕ, ◌+◌, ◌^◌, ◌<◌, inl, inr, sym, ◌∙◌, ap, subst, arith, List, length, get_or, set, max}
+use Rattle.std.proofs.Common.{replicate, ◌*◌}
 use Rattle.std.proofs.Common.{get_or-set_same, get_or-set_other, w32, Option, Some, None, IfSome, Bool, true, false, ◌&&◌, ◌==◌}
 use Rattle.std.specs.Int.{bit_at, trailing_zeros}
 use Rattle.std.proofs.Math.ListN.{length-set}
 use Rattle.std.proofs.Math.Pow.{pow-lt}
-use Rattle.std.proofs.lemmas.Bool.{cases_eq, false≢true, true≢false}
+use Rattle.std.proofs.lemmas.Bool.{cases_eq, cases_lt, false≢true, true≢false}
+use Rattle.std.proofs.lemmas.List.{get_or-replicate, get_or_past, length-replicate}
 use Rattle.std.proofs.lemmas.Nat.{or_of_32}
 use Rattle.std.proofs.lemmas.Nat.Bits.{bit_at_ones, bit_at-zero, bit_at-lt, bit_at_or}
 use Rattle.std.proofs.lemmas.Nat.Bits.{bit_at-pow_same, bit_at-pow_other, bit_at-trailing_zeros}
@@ -15,7 +17,7 @@ use Rattle.qic_base.specs.TapeCalls.{Tells, ReadsSectors, is_readable}
 use Rattle.qic_base.specs.declared.tape.SectorView.{SectorView}
 use Rattle.qic_base.specs.declared.tape.SectorView.TheVariants.{Blank, Defect, Lost, Holds}
 use Rattle.cartridge_laws.specs.Segment.{IsUnreadable}
-use Rattle.formatter.specs.Marking.{AreReadable, MarksBelow, HasNoMark, IsMarked}
+use Rattle.formatter.specs.Marking.{AreReadable, MarksBelow, MarksUnreadable, HasNoMark, IsMarked}
 
 -- ---- a word with one bit more
 
@@ -110,6 +112,32 @@ marks_bad c words s i there within unreadable m = record {
           ∙ ap (λ (k : ℕ). bit_at (get_or words k 0) j) (sym same)
       | inr other ↦ ap (λ (word : ℕ). bit_at word j) (word_other t other)
     ]
+
+-- nothing was read, and nothing is marked
+no_word : (n segment : ℕ) → ◌≡◌ {A = ℕ} (get_or (replicate n 0) segment 0) 0
+no_word n segment = elim (cases_lt segment n) [
+  | inl there ↦ get_or-replicate n segment 0 0 there
+  | inr past ↦ get_or_past (replicate n 0) segment 0 (grind (arith, length-replicate))
+]
+
+pub marks_none : (c : Cartridge) (n : ℕ) → MarksBelow c (replicate n 0) 0
+marks_none c n = record {
+  fits = λ segment. subst (λ (word : ℕ). word < 2 ^ 32) (sym (no_word n segment)) (omega arith);
+  each = λ segment sector there within. (
+    λ is. let bit : bit_at (get_or (replicate n 0) segment 0) sector ≡ 0 =
+        ap (λ (word : ℕ). bit_at word sector) (no_word n segment) ∙ bit_at-zero sector in absurd (omega arith),
+    λ both. let none : place_of segment sector < 0 = both.0 in absurd (omega arith),
+  );
+}
+
+-- all was read
+pub marks_all : (c : Cartridge) (words : List ℕ) → MarksBelow c words (32 * length words) → MarksUnreadable c words
+marks_all c words m = record {
+  fits = m.fits;
+  each = λ segment sector there within.
+      let iff = m.each segment sector there within in
+      (λ is. (iff.0 is).1, λ bad. iff.1 (let before : place_of segment sector < 32 * length words = omega arith in before, bad));
+}
 
 -- by what a read of all 32 found
 pub good_readable : (wanted good blank : ℕ) (view : ℕ → SectorView) (old new : List (List ℕ)) → wanted ≡ 4294967295 →

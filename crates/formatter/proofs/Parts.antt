@@ -3,7 +3,7 @@ use Rattle.std.proofs.Common.{◌≡◌, ℕ, zero, suc, ◌+◌, ◌-◌, ◌*�
 use Rattle.std.proofs.Common.{append_assoc}
 use Rattle.std.proofs.lemmas.List.{append-nil}
 use Rattle.std.proofs.lemmas.List.FromFn.{map-range_with_len_more}
-use Rattle.qic_base.specs.Step.{Step, FormatSegment}
+use Rattle.qic_base.specs.Step.{Step, FormatSegment, SetReferenced}
 use Rattle.qic_base.specs.Tape.{Meaning, Done, Broke}
 use Rattle.qic_base.proofs.Steps.{Done-Done, Done-Broke, Broke-front}
 use Rattle.formatter.specs.Steps.{track_formats}
@@ -55,15 +55,22 @@ broke_one {m = m} {a = a} {c = c} first n all within before more =
     (subst (λ (steps : List Step). Broke m a c steps) (sym (formats_more first n))
     (Done-Broke {xs = formats_from first n} {ys = FormatSegment (first + n) ∷ []} before more))
 
-pub done_track : {S : Type 0} {m : Meaning S} {a b c : S} (n track : ℕ) → Done m a b (formats_from 0 (track * n)) →
-    Done m b c (track_formats n track) → Done m a c (formats_from 0 ((track + 1) * n))
+-- the bursts and the tracks before one were done, and then that track
+pub done_track : {S : Type 0} {m : Meaning S} {a b c : S} (n track : ℕ) → Done m a b (SetReferenced ∷ formats_from 0 (track * n)) →
+    Done m b c (track_formats n track) → Done m a c (SetReferenced ∷ formats_from 0 ((track + 1) * n))
 done_track {m = m} {a = a} {c = c} n track before more =
-    subst (λ (steps : List Step). Done m a c steps) (sym (tracks_more n track))
-    (Done-Done {xs = formats_from 0 (track * n)} {ys = track_formats n track} before more)
+    subst (λ (steps : List Step). Done m a c (SetReferenced ∷ steps)) (sym (tracks_more n track))
+    (Done-Done {xs = SetReferenced ∷ formats_from 0 (track * n)} {ys = track_formats n track} before more)
 
 pub broke_track : {S : Type 0} {m : Meaning S} {a b c : S} (n track all : ℕ) → (track + 1) * n ≤ all →
-    Done m a b (formats_from 0 (track * n)) → Broke m b c (track_formats n track) → Broke m a c (formats_from 0 all)
+    Done m a b (SetReferenced ∷ formats_from 0 (track * n)) → Broke m b c (track_formats n track) →
+    Broke m a c (SetReferenced ∷ formats_from 0 all)
 broke_track {m = m} {a = a} {c = c} n track all within before more =
-    broke_of 0 ((track + 1) * n) all within
-    (subst (λ (steps : List Step). Broke m a c steps) (sym (tracks_more n track))
-    (Done-Broke {xs = formats_from 0 (track * n)} {ys = track_formats n track} before more))
+    let left : ℕ = all - (track + 1) * n in
+    let whole : (track + 1) * n + left ≡ all = omega arith in
+    let parts : (formats_from 0 (track * n) ++ track_formats n track) ++ formats_from (0 + (track + 1) * n) left ≡ formats_from 0 all =
+    ap (λ (l : List Step). l ++ formats_from (0 + (track + 1) * n) left) (sym (tracks_more n track))
+    ∙ sym (formats_append 0 ((track + 1) * n) left) ∙ ap (formats_from 0) whole in
+    subst (λ (steps : List Step). Broke m a c (SetReferenced ∷ steps)) parts
+    (Broke-front {xs = SetReferenced ∷ (formats_from 0 (track * n) ++ track_formats n track)} (formats_from (0 + (track + 1) * n) left)
+    (Done-Broke {xs = SetReferenced ∷ formats_from 0 (track * n)} {ys = track_formats n track} before more))

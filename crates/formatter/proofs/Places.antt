@@ -12,7 +12,7 @@ use Rattle.drive_spec.specs.declared.deck.Motion.TheVariants.{Stopped, Streaming
 use Rattle.drive_spec.specs.Deck.{segments_per_track, is_stopped, is_streaming, limit}
 use Rattle.drive_spec.specs.Terms.{is_protected, is_referenced, referenced_as}
 use Rattle.drive_states.specs.Reach.{segment_of, StreamsTo, IsUnder}
-use Rattle.drive_states.specs.Sound.{IsSound, IsInMotion}
+use Rattle.drive_states.specs.Sound.{HasLength, IsSound, IsInMotion}
 use Rattle.drive_states.specs.Unit.{UnitView, Knows}
 use Rattle.host_driver.specs.declared.host.Host.{Host}
 use Rattle.host_driver.specs.Fits.{Fits, segments_of}
@@ -31,6 +31,15 @@ length_known {h = h} {u = u} f = by_cartridge u.drive.deck.cartridge f.cartridge
 
 pub length_kept : (a b : Deck) → b.cartridge ≡ a.cartridge → segments_per_track b ≡ segments_per_track a
 length_kept a b same = ap (λ (o : Option TapeInfo). option_map_or (λ (c : TapeInfo). c.segments_per_track) o 0) same
+
+-- a track has segments
+pub some_segments : {T : Type 0} {m : Meaning T} {h : Host} {u : UnitView T} → Fits m h u → 0 < segments_per_track u.drive.deck
+some_segments {h = h} {u = u} f = by_cartridge u.drive.deck.cartridge f.cartridge f.sound.drive.deck.long
+  where
+    by_cartridge : (o : Option TapeInfo) → IsSomeAnd o (λ info. info.segments_per_track ≡ segments_of h) → HasLength o →
+        0 < option_map_or (λ (c : TapeInfo). c.segments_per_track) o 0
+    by_cartridge None there long = absurd there
+    by_cartridge (Some info) there long = let least : 3 ≤ info.segments_per_track = long.shortest in omega arith
 
 -- ---- where it stands
 

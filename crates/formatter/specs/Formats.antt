@@ -1,5 +1,5 @@
 -- What formatting did, by its answer (this project's profile).
-use Rattle.std.specs.Prelude.{◌≡◌, ◌⊎◌, ℕ, ◌*◌, ◌<◌, ◌++◌, List, [], Result, Ok, Err}
+use Rattle.std.specs.Prelude.{◌≡◌, ◌⊎◌, ℕ, ◌*◌, ◌<◌, ◌++◌, List, Result, Ok, Err}
 use Rattle.qic_base.specs.Step.{Step}
 use Rattle.qic_base.specs.Tape.{Meaning, Done, Broke}
 use Rattle.qic_base.specs.TapeCalls.{Does, Tells}
@@ -45,7 +45,7 @@ pub record HasBrokenOff {T : Type 0} (m : Meaning T) (n : ℕ) (label : List ℕ
 abbrev pub Formats : {T : Type 0} (m : Meaning T) (n : ℕ) (label : List ℕ) (date : ℕ) (old new : T) (words : List ℕ) →
     Result FormatReport FormatFault → Type 0
 Formats m n label date old new words (Ok report) = HasFormatted m n label date old new words report
-Formats m n label date old new words (Err Protected) = Done m old new []
+Formats m n label date old new words (Err Protected) = new ≡ old
 Formats m n label date old new words (Err (DefectInFront segment)) = HasRefused m n old new segment
 Formats m n label date old new words (Err Tape) =
     Broke m old new (clearing_steps n) ⊎ HasBrokenOff m n label date old new words
@@ -55,7 +55,7 @@ Formats m n label date old new words (Err Tape) =
 -- the reference bursts and all segments
 abbrev pub Clears : {T : Type 0} (m : Meaning T) (n : ℕ) (old new : T) → Result (Unit {0}) FormatFault → Type 0
 Clears m n old new (Ok done) = Done m old new (clearing_steps n)
-Clears m n old new (Err Protected) = Done m old new []
+Clears m n old new (Err Protected) = new ≡ old
 Clears m n old new (Err (DefectInFront segment)) = ⊥
 Clears m n old new (Err Tape) = Broke m old new (clearing_steps n)
 

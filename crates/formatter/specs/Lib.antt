@@ -1,3 +1,4 @@
+pub mod Calls
 pub mod Formats
 pub mod Marking
 pub mod Steps

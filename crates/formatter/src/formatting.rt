@@ -1,10 +1,10 @@
 //! The formatting of a cartridge.
 
-ghost use Rattle.std.specs.Prelude.{◌≡◌, ◌≢◌, ◌↔◌, true, length};
+ghost use Rattle.std.specs.Prelude.{◌≡◌, ◌↔◌, true, length};
 ghost use Rattle.drive_spec.specs.Deck.{segments_per_track};
 ghost use Rattle.drive_spec.specs.Terms.{is_protected};
 ghost use Rattle.host_driver.specs.Calls.{IsReady};
-ghost use Rattle.host_driver.specs.Fits.{AgreesWithTape, Fits, IsAtRest};
+ghost use Rattle.formatter.specs.Calls.{Leaves};
 ghost use Rattle.formatter.specs.Formats.{Formats};
 
 use crate::clearing::clear;
@@ -39,15 +39,9 @@ pub fn format<T: Tape>(
     requires ready { IsReady T.means host.old unit.old }
     ensures protected { (result ≡ Err FormatFault.Protected)
         ↔ (is_protected unit.old.drive.deck ≡ true) }
-    ensures untouched { result ≡ Err FormatFault.Protected → unit.new.tape ≡ unit.old.tape }
     ensures did { Formats T.means (segments_per_track unit.old.drive.deck) label.now date
         unit.old.tape unit.new.tape map.new result }
-    ensures fits { Fits T.means host.new unit.new }
-    // After a tape fault the drive may still seek where the reference bursts failed.
-    ensures rest { result ≢ Err FormatFault.Tape → IsAtRest unit.new.drive }
-    ensures size { T.means.size unit.new.tape ≡ T.means.size unit.old.tape }
-    ensures agrees { result ≢ Err FormatFault.Tape →
-        AgreesWithTape T.means unit.old → AgreesWithTape T.means unit.new }
+    ensures leaves { Leaves T.means host.new unit.old unit.new result }
     ensures room { length work.new ≡ 32 }
 {
     let sectors = work.sectors_mut();

@@ -1,28 +1,24 @@
 //! The header of a fresh cartridge, and its two copies.
 
-ghost use Rattle.std.specs.Prelude.{◌≡◌, ◌<◌, ◌*◌, true, false, length, take, IsOkUnless};
-ghost use Rattle.qic_base.specs.Cartridge.{IsLength};
+ghost use Rattle.std.specs.Prelude.{◌≡◌, ◌<◌, ◌*◌, false, length, take};
 ghost use Rattle.qic_base.specs.TapeCalls.{Does};
-ghost use Rattle.cartridge_spec.specs.Header.{SpellsHeader};
-ghost use Rattle.header_segments.specs.Header.{header_of};
-ghost use Rattle.drive_spec.specs.Deck.{segments_per_track, is_stopped};
-ghost use Rattle.drive_spec.specs.Terms.{is_protected, is_referenced};
-ghost use Rattle.host_driver.specs.Calls.{IsReady, MayWrite, Keeps};
-ghost use Rattle.host_driver.specs.Fits.{AgreesWithTape};
+ghost use Rattle.drive_spec.specs.Deck.{segments_per_track};
+ghost use Rattle.drive_spec.specs.Terms.{is_protected};
+ghost use Rattle.host_driver.specs.Calls.{MayWrite, Keeps};
 ghost use Rattle.cartridge_spec.specs.Formatting.{copy_writes};
 ghost use Rattle.cartridge_spec.specs.Says.{with_parity};
 ghost use Rattle.cartridge_laws.specs.HeaderTerms.{IsFreshArea};
+ghost use Rattle.formatter.specs.Calls.{CanGo, IsAtStop, KeepsCartridge};
 ghost use Rattle.formatter.specs.Formats.{WritesHeader};
 
-use crate::fault::FormatFault;
 use bad_sector_map::BadMap;
 use drive_states::Unit;
 use gf256_qic::DATA_SECTORS;
 use header_segments::{Header, encode};
 use host_driver::Host;
-use qic_base::{LostSet, Name, Sector, Tape, WHOLE};
+use qic_base::{LostSet, Name, Sector, Tape, TapeFailed, WHOLE};
 use qic117_commands::Mode;
-use segment_io::{SegFault, Workspace, write_sectors};
+use segment_io::{Workspace, write_sectors};
 use segment_parity::put_parity;
 use tape_geometry::Geometry;
 
@@ -34,26 +30,19 @@ pub(crate) fn write_header<T: Tape>(
     map: &BadMap,
     label: &Name,
     date: u32,
-) -> Result<(), FormatFault>
-    requires ready { IsReady T.means host.old unit.old }
+) -> Result<(), TapeFailed>
+    requires stands { IsAtStop T.means host.old unit.old }
     requires writable { is_protected unit.old.drive.deck ≡ false }
-    requires referenced { is_referenced unit.old.drive.deck ≡ true }
-    requires stopped { is_stopped unit.old.drive.deck.motion ≡ true }
     requires words { length map.now ≡ 28 * segments_per_track unit.old.drive.deck }
     ensures did { WritesHeader T.means (segments_per_track unit.old.drive.deck) label.now date
         map.now unit.old.tape unit.new.tape result }
-    ensures fault { IsOkUnless result FormatFault.Tape }
     ensures room { length work.new ≡ 32 }
-    ensures cartridge { unit.new.drive.deck.cartridge ≡ unit.old.drive.deck.cartridge }
-    ensures agrees { AgreesWithTape T.means unit.old → AgreesWithTape T.means unit.new }
-    ensures size { T.means.size unit.new.tape ≡ T.means.size unit.old.tape }
-    ensures ready { IsReady T.means host.new unit.new }
+    ensures keeps { KeepsCartridge T.means host.new unit.old unit.new }
 {
     spell(host.geometry(), label, date, map, work.sectors_mut());
-    host.enter(unit, Mode::Primary)?;
+    host.enter(unit, Mode::Primary).unwrap();
     write_copy(host, unit, 0, work)?;
-    write_copy(host, unit, 1, work)?;
-    Ok(())
+    write_copy(host, unit, 1, work)
 }
 
 /// Makes the sectors those of a header copy: the data and their parity.
@@ -70,18 +59,8 @@ fn spell(geometry: Geometry, label: &Name, date: u32, map: &BadMap, sectors: &mu
         label: *label,
         label_date: date,
     };
-    put_header(&header, map, sectors);
+    encode(&header, map, &mut sectors[..DATA_SECTORS]);
     put_parity(sectors, DATA_SECTORS);
-}
-
-/// Spells the header and the map in the data sectors.
-fn put_header(header: &Header, map: &BadMap, sectors: &mut [Sector])
-    requires long { IsLength header.now.segments_per_track }
-    requires words { length map.now ≡ 28 * header.now.segments_per_track }
-    requires room { length sectors.old ≡ 32 }
-    ensures { SpellsHeader (header_of header.now) map.now (take 29 sectors.new) }
-{
-    encode(header, map, &mut sectors[..DATA_SECTORS]);
 }
 
 /// Writes the sectors of a header copy: 1 to 31, ascending, and then sector 0, without which the copy can't be read.
@@ -90,14 +69,12 @@ fn write_copy<T: Tape>(
     unit: &mut Unit<T>,
     copy: u32,
     work: &Workspace,
-) -> Result<(), SegFault>
-    requires ready { IsReady T.means host.old unit.old }
+) -> Result<(), TapeFailed>
+    requires ready { CanGo T.means host.old unit.old }
     requires writable { MayWrite unit.old.drive.deck }
-    requires referenced { is_referenced unit.old.drive.deck ≡ true }
     requires copy { copy < 2 }
     requires room { length work.now ≡ 32 }
     ensures did { Does T.means unit.old.tape unit.new.tape (copy_writes copy work.now) result }
-    ensures fault { IsOkUnless result SegFault.Tape }
     ensures keeps { Keeps T.means host.new unit.old unit.new }
 {
     let last = LostSet::from_mask(1);

@@ -1,20 +1,19 @@
 //! The pass over a formatted tape, which marks the sectors that can't be read.
 
-ghost use Rattle.std.specs.Prelude.{◌≡◌, ◌<◌, ◌≤◌, ◌+◌, ◌*◌, [], true, length, OnOk, IsOkUnless, MatchOption};
+ghost use Rattle.std.specs.Prelude.{◌≡◌, ◌<◌, ◌≤◌, ◌+◌, ◌*◌, [], true, length, OnOk, MatchOption};
 ghost use Rattle.qic_base.specs.Cartridge.{Cartridge, view_at};
 ghost use Rattle.qic_base.specs.TapeCalls.{Does, Tells};
 ghost use Rattle.drive_spec.specs.Deck.{segments_per_track, is_stopped};
-ghost use Rattle.drive_spec.specs.Terms.{is_referenced};
-ghost use Rattle.drive_states.specs.Reach.{reads_in, IsUnder};
-ghost use Rattle.host_driver.specs.Calls.{IsReady, Keeps};
-ghost use Rattle.host_driver.specs.Fits.{AgreesWithTape};
+ghost use Rattle.drive_states.specs.Reach.{reads_in};
+ghost use Rattle.host_driver.specs.Calls.{Keeps};
+ghost use Rattle.formatter.specs.Calls.{CanGo, IsAtStop, KeepsCartridge};
 ghost use Rattle.formatter.specs.Marking.{AreReadable, MarksBelow, MarksUnreadable, IsFirstMarked, HasNoMarkInFront};
 
 use crate::track::go_to_track;
 use bad_sector_map::BadMap;
 use drive_states::Unit;
-use host_driver::{Host, HostFault};
-use qic_base::{LostSet, SECTORS, Sector, TRACKS, Tape, WHOLE};
+use host_driver::Host;
+use qic_base::{LostSet, SECTORS, Sector, TRACKS, Tape, TapeFailed, WHOLE};
 use qic117_commands::Mode;
 
 /// The segments of the header copies and of the volume table.
@@ -27,69 +26,39 @@ pub(crate) fn mark_all<T: Tape>(
     unit: &mut Unit<T>,
     map: &mut BadMap,
     sectors: &mut [Sector],
-) -> Result<(), HostFault>
-    requires ready { IsReady T.means host.old unit.old }
-    requires stopped { is_stopped unit.old.drive.deck.motion ≡ true }
-    requires referenced { is_referenced unit.old.drive.deck ≡ true }
+) -> Result<(), TapeFailed>
+    requires stands { IsAtStop T.means host.old unit.old }
     requires room { length sectors.old ≡ 32 }
     ensures did { Does T.means unit.old.tape unit.new.tape [] result }
-    ensures fault { IsOkUnless result HostFault.Tape }
     ensures marks { OnOk result (Tells T.means unit.old.tape (λ c. MarksUnreadable c map.new)) }
     ensures words { length map.new ≡ 28 * segments_per_track unit.old.drive.deck }
     ensures stopped { OnOk result (is_stopped unit.new.drive.deck.motion ≡ true) }
-    ensures cartridge { unit.new.drive.deck.cartridge ≡ unit.old.drive.deck.cartridge }
-    ensures agrees { AgreesWithTape T.means unit.old → AgreesWithTape T.means unit.new }
-    ensures size { T.means.size unit.new.tape ≡ T.means.size unit.old.tape }
-    ensures ready { IsReady T.means host.new unit.new }
+    ensures keeps { KeepsCartridge T.means host.new unit.old unit.new }
 {
+    let Some(entries) = sectors.as_mut_array() else {
+        unreachable!("there are 32 sectors")
+    };
     map.reset(host.geometry().segments());
-    host.enter(unit, Mode::Verify)?;
-    mark_tracks(host, unit, map, sectors)
-}
-
-/// Marks the unreadable sectors of all tracks.
-fn mark_tracks<T: Tape>(
-    host: &mut Host,
-    unit: &mut Unit<T>,
-    map: &mut BadMap,
-    sectors: &mut [Sector],
-) -> Result<(), HostFault>
-    requires ready { IsReady T.means host.old unit.old }
-    requires mode { reads_in unit.old.drive.deck.mode ≡ true }
-    requires stopped { is_stopped unit.old.drive.deck.motion ≡ true }
-    requires referenced { is_referenced unit.old.drive.deck ≡ true }
-    requires words { length map.old ≡ 28 * segments_per_track unit.old.drive.deck }
-    requires room { length sectors.old ≡ 32 }
-    ensures did { Does T.means unit.old.tape unit.new.tape [] result }
-    ensures fault { IsOkUnless result HostFault.Tape }
-    ensures marks { OnOk result (Tells T.means unit.old.tape (λ c.
-        MarksBelow c map.old 0 → MarksBelow c map.new (32 * length map.old))) }
-    ensures words { length map.new ≡ length map.old }
-    ensures stopped { OnOk result (is_stopped unit.new.drive.deck.motion ≡ true) }
-    ensures keeps { Keeps T.means host.new unit.old unit.new }
-{
+    host.enter(unit, Mode::Verify).unwrap();
     for track in 0..TRACKS {
-        mark_track(host, unit, track, map, sectors)?;
+        mark_track(host, unit, track, map, entries)?;
     }
     Ok(())
 }
 
-/// Marks the unreadable sectors of a track.
+/// Reads the segments of a track, ascending, and marks their unreadable sectors.
 fn mark_track<T: Tape>(
     host: &mut Host,
     unit: &mut Unit<T>,
     track: u32,
     map: &mut BadMap,
-    sectors: &mut [Sector],
-) -> Result<(), HostFault>
-    requires ready { IsReady T.means host.old unit.old }
+    sectors: &mut [Sector; 32],
+) -> Result<(), TapeFailed>
+    requires ready { CanGo T.means host.old unit.old }
     requires mode { reads_in unit.old.drive.deck.mode ≡ true }
-    requires referenced { is_referenced unit.old.drive.deck ≡ true }
     requires track { track < 28 }
     requires words { length map.old ≡ 28 * segments_per_track unit.old.drive.deck }
-    requires room { length sectors.old ≡ 32 }
     ensures did { Does T.means unit.old.tape unit.new.tape [] result }
-    ensures fault { IsOkUnless result HostFault.Tape }
     ensures marks { let n = segments_per_track unit.old.drive.deck in
         OnOk result (Tells T.means unit.old.tape (λ c. MarksBelow c map.old (32 * (track * n)) →
         MarksBelow c map.new (32 * ((track + 1) * n)))) }
@@ -97,41 +66,14 @@ fn mark_track<T: Tape>(
     ensures stopped { OnOk result (is_stopped unit.new.drive.deck.motion ≡ true) }
     ensures keeps { Keeps T.means host.new unit.old unit.new }
 {
-    let count = go_to_track(host, unit, track)?;
+    let count = go_to_track(host, unit, track);
     let first = track * count;
     for offset in 0..count {
-        mark_segment(host, unit, first + offset, map, sectors)?;
-        host.next_segment(unit)?;
+        let segment = first + offset;
+        let read = host.read_sectors(unit, segment, LostSet::from_mask(WHOLE), sectors)?;
+        mark_others(map, segment, read.good);
+        host.next_segment(unit);
     }
-    Ok(())
-}
-
-/// Reads the segment in which the tape streams, and marks its unreadable sectors.
-fn mark_segment<T: Tape>(
-    host: &mut Host,
-    unit: &mut Unit<T>,
-    segment: u32,
-    map: &mut BadMap,
-    sectors: &mut [Sector],
-) -> Result<(), HostFault>
-    requires ready { IsReady T.means host.old unit.old }
-    requires mode { reads_in unit.old.drive.deck.mode ≡ true }
-    requires under { IsUnder unit.old.drive.deck segment 0 }
-    requires segment { segment < length map.old }
-    requires room { length sectors.old ≡ 32 }
-    ensures did { Does T.means unit.old.tape unit.new.tape [] result }
-    ensures fault { IsOkUnless result HostFault.Tape }
-    ensures marks { OnOk result (Tells T.means unit.old.tape (λ c.
-        MarksBelow c map.old (32 * segment) → MarksBelow c map.new (32 * (segment + 1)))) }
-    ensures words { length map.new ≡ length map.old }
-    ensures under { OnOk result (IsUnder unit.new.drive.deck segment 32) }
-    ensures keeps { Keeps T.means host.new unit.old unit.new }
-{
-    let Some(entries) = sectors.as_mut_array() else {
-        unreachable!("there are 32 sectors")
-    };
-    let read = host.read_sectors(unit, segment, LostSet::from_mask(WHOLE), entries)?;
-    mark_others(map, segment, read.good);
     Ok(())
 }
 

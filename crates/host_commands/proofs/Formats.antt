@@ -31,6 +31,7 @@ use Rattle.hand_commands.specs.Writing.{printed_status}
 use Rattle.command_laws.specs.RunTerms.{EndsBlind}
 use Rattle.hand_commands.proofs.Endings.{IsBlind, printed, turned_down, turned_behind, cut_off, cut_off_first}
 use Rattle.command_laws.proofs.CommandEndings.{Rules}
+use Rattle.segment_io.proofs.Going.{done_moved}
 use Rattle.volume_store.proofs.Started.{Present, told_known, told_known_beside, told_at_start}
 use Rattle.qic_base.specs.CartridgeTerms.{IsInfoOf}
 use Rattle.qic_base.specs.Sink as sinks
@@ -165,7 +166,7 @@ pub format_faulted : {T K : Type 0} (t : tapes.Meaning T) (k : sinks.Meaning K) 
 format_faulted t k label date a b c x info words fault.Protected nothing there marked came =
     turned_down t k (Format label date) is_blind a c x status.Protected nothing refl refl (λ is. cc)
     (told_known (t.told a) (Some info) (λ h. Rules (Format label date) h (refused status.Protected)) there.known
-    (λ held known input. protected_is label date info held (marked.0 refl) known)) (Done-Done there.did came)
+    (λ held known input. protected_is label date info held (marked.0 refl) known)) (Done-Done there.did (done_moved t b c came))
 format_faulted t k label date a b c x info words (fault.DefectInFront segment) nothing there marked came =
     let unlocked : info.protected ≡ false = not_true info.protected (λ mark. let is = marked.1 mark in cc) in
     turned_behind t k (Format label date) is_blind a c x (status.DefectInFront segment) (clearing_steps info.segments_per_track) nothing

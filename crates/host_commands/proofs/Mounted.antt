@@ -23,8 +23,7 @@ use Rattle.command_spec.specs.Outcome.{CommandOutcome, refused, acted, Going, Op
 use Rattle.command_laws.specs.Outcomes.{Printing, telling, listing}
 use Rattle.volume_store.proofs.Refusals.{foreign_is_refused}
 use Rattle.volume_store.proofs.Opened.{opening_cut}
-use Rattle.volume_store.specs.Opening.{HasOpened, IsTurnedDown, OpenFails, StartFails}
-use Rattle.volume_store.specs.declared.opening.OpenFault.{OpenFault}
+use Rattle.volume_store.specs.Opening.{HasOpened, IsAbsent, IsTurnedDown, OpenFails}
 use Rattle.command_laws.specs.CommandFields.{CommandPrints, Yields}
 use Rattle.command_laws.specs.CommandRecord.{is_unsound}
 use Rattle.command_laws.specs.RunTerms.{EndsBlind}
@@ -37,12 +36,12 @@ use Rattle.command_laws.proofs.CommandEndings.{Rules, none_reached, nothing_fron
 use Rattle.volume_store.proofs.Ending.{none_left}
 use Rattle.volume_store.proofs.Mounted.{cut_first}
 use Rattle.volume_store.proofs.Started.{Present}
-use Rattle.cartridge_front.specs.declared.fault.StoreFault.{StoreFault}
+use Rattle.segment_io.specs.declared.fault.StoreFault.{StoreFault}
 use Rattle.cartridge_front.specs.Learning.{MountRefuses}
 use Rattle.hand_commands.specs.Outcome.{first_steps}
 use Rattle.host_commands.specs.Opening.{IsRefusal, RefusesOpening, is_opening, NoStart, OpeningRefused, OpeningEnds, IsUnlocked}
 use Rattle.host_commands.specs.Opening.{WritableEnds}
-use Rattle.host_commands.specs.Statuses.{store_status, open_status}
+use Rattle.host_commands.specs.Statuses.{store_status}
 use Rattle.hand_commands.specs.Writing.{printed_status}
 use Rattle.hand_commands.proofs.Endings.{IsBlind, printed, turned_down, cut_off, told_map}
 use Rattle.qic_base.specs.Acts.{TapeFails}
@@ -55,10 +54,9 @@ use Rattle.qic_base.specs.Source as sources
 use Rattle.qic_base.specs.SinkCalls as sink_calls
 use Rattle.qic_base.specs.Tape as tapes
 use Rattle.cartridge_spec.specs.Mounting as mounting
-use Rattle.cartridge_front.specs.declared.fault.StoreFault.TheVariants as fault
+use Rattle.segment_io.specs.declared.fault.StoreFault.TheVariants as fault
 use Rattle.command_spec.specs.declared.words.Words.TheVariants as words
 use Rattle.command_spec.specs.declared.status.Status.TheVariants as status
-use Rattle.volume_store.specs.declared.opening.OpenFault.TheVariants as open_fault
 
 -- ---- outcomes
 
@@ -149,16 +147,10 @@ absent_told (Some None) none = refl
 absent_told (Some (Some c)) none = absurd (cc)
 
 -- the refusals of an opening have an answer each
-pub never_short : {T : Type 0} (t : tapes.Meaning T) (a b : T) (why : OpenFault) → OpenFails t a b why → (promised read : ℕ) →
-    why ≢ open_fault.Refused (fault.Short promised read)
-never_short t a b open_fault.NoCartridge fails promised read is = cc
-never_short t a b (open_fault.Refused (fault.Short p r)) fails promised read is = let kind = fails.kind in absurd (cc)
-never_short t a b (open_fault.Refused f) fails promised read is = cc
-
-pub start_failed : {T : Type 0} (t : tapes.Meaning T) (a b : T) (why : OpenFault) → StartFails t a b why → NoStart t a b (open_status why)
-start_failed t a b open_fault.NoCartridge fails = inl (refl, fails)
-start_failed t a b (open_fault.Refused fault.Tape) fails = inr (refl, fails)
-start_failed t a b (open_fault.Refused f) fails = absurd fails
+pub never_short : {T : Type 0} (t : tapes.Meaning T) (a b : T) (f : StoreFault) → OpenFails t a b (Some f) → (promised read : ℕ) →
+    f ≢ fault.Short promised read
+never_short t a b (fault.Short p r) fails promised read is = let kind = fails.kind in absurd (cc)
+never_short t a b f fails promised read is = cc
 
 turned : {T : Type 0} (t : tapes.Meaning T) (a b : T) (f : StoreFault) → IsTurnedDown t a b f → is_opening (store_status f) ≡ true →
     OpeningRefused t a b (store_status f)
@@ -169,18 +161,21 @@ turned t a b f refused sound = record {
 }
 
 -- a cartridge can't be opened
-pub open_failed : {T : Type 0} (t : tapes.Meaning T) (a : T) (b : UnitView T) (why : OpenFault) → OpenFails t a b.tape why →
-    OpeningEnds t a b (Err (open_status why))
-open_failed t a b open_fault.NoCartridge fails = inl (record { did = fails.0; sound = refl; told = absent_told (t.told a) fails.1 })
-open_failed t a b (open_fault.Refused fault.NotFormatted) fails = inl (turned t a b.tape fault.NotFormatted fails refl)
-open_failed t a b (open_fault.Refused (fault.Foreign field value)) fails =
+pub open_absent : {T : Type 0} (t : tapes.Meaning T) (a : T) (b : UnitView T) → IsAbsent t a b.tape →
+    OpeningEnds t a b (Err status.NoCartridge)
+open_absent t a b (did, none) = inl (record { did = did; sound = refl; told = absent_told (t.told a) none })
+
+pub open_failed : {T : Type 0} (t : tapes.Meaning T) (a : T) (b : UnitView T) (f : StoreFault) → OpenFails t a b.tape (Some f) →
+    OpeningEnds t a b (Err (store_status f))
+open_failed t a b fault.NotFormatted fails = inl (turned t a b.tape fault.NotFormatted fails refl)
+open_failed t a b (fault.Foreign field value) fails =
     inl (turned t a b.tape (fault.Foreign field value) fails (foreign_is_refused fails.segments field value fails.cause))
-open_failed t a b (open_fault.Refused (fault.Lost segment lost)) fails =
+open_failed t a b (fault.Lost segment lost) fails =
     inl (turned t a b.tape (fault.Lost segment lost) fails
     (both_true (are_too_many lost) (segment == 2) (too_many lost fails.cause.1) (ap (λ (s : ℕ). s == 2) fails.cause.0)))
-open_failed t a b (open_fault.Refused fault.TableMismatch) fails = inl (turned t a b.tape fault.TableMismatch fails refl)
-open_failed t a b (open_fault.Refused fault.Tape) fails = inr (refl, fails)
-open_failed t a b (open_fault.Refused f) fails = let kind = fails.kind in absurd (cc)
+open_failed t a b fault.TableMismatch fails = inl (turned t a b.tape fault.TableMismatch fails refl)
+open_failed t a b fault.Tape fails = inr (refl, fails)
+open_failed t a b f fails = let kind = fails.kind in absurd (cc)
 
 -- ---- .. of a cartridge to write on
 

@@ -14,7 +14,6 @@ use Rattle.volume_store.specs.Mounting.{StoreView, SettlingBreaks}
 use Rattle.cartridge_spec.specs.Header.{HeaderFault}
 use Rattle.cartridge_spec.specs.Mounting as mounting
 use Rattle.command_spec.specs.declared.status.Status.TheVariants as status
-use Rattle.cartridge_front.specs.declared.fault.StoreFault.TheVariants as fault
 
 -- a fault of the header or of the table's slots, as an answer
 abbrev pub foreign : HeaderFault → Status

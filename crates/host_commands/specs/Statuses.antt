@@ -1,10 +1,8 @@
 -- The answer that each fault of a store makes (this project's own).
 use Rattle.command_spec.specs.declared.status.Status.{Status}
-use Rattle.volume_store.specs.declared.opening.OpenFault.{OpenFault}
-use Rattle.cartridge_front.specs.declared.fault.StoreFault.{StoreFault}
+use Rattle.segment_io.specs.declared.fault.StoreFault.{StoreFault}
 use Rattle.command_spec.specs.declared.status.Status.TheVariants as status
-use Rattle.volume_store.specs.declared.opening.OpenFault.TheVariants as open_fault
-use Rattle.cartridge_front.specs.declared.fault.StoreFault.TheVariants as fault
+use Rattle.segment_io.specs.declared.fault.StoreFault.TheVariants as fault
 
 -- the answer that a refusal of a store makes, or its fault; a source that ends early has none, since a command that appends its
 -- whole input promises no bytes
@@ -21,8 +19,3 @@ store_status fault.Source = status.SourceFault
 store_status fault.Sink = status.SinkFault
 store_status (fault.Short promised read) = status.TapeFault
 store_status fault.Tape = status.TapeFault
-
--- the answer that a cartridge makes that can't be opened
-abbrev pub open_status : OpenFault → Status
-open_status open_fault.NoCartridge = status.NoCartridge
-open_status (open_fault.Refused fault) = store_status fault

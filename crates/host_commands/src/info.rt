@@ -69,9 +69,7 @@ fn write_info<K: Sink>(
     ensures { Writes K.means sink.old sink.new (label_lines (header_of header.now)
         ++ count_lines (28 * header.now.segments_per_track) bad volumes) result }
 {
-    if let Err(fault) = write_text(label_text(header).bytes(), sink) {
-        return Err(fault);
-    }
+    write_text(label_text(header).bytes(), sink)?;
     let segments = TRACKS * u32::from(header.segments_per_track);
     write_text(count_text(segments, bad, volumes).bytes(), sink)
 }

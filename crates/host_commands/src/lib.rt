@@ -12,4 +12,4 @@ pub mod restore;
 pub mod room;
 pub mod scrub;
 
-pub use opening::{open, open_writable};
+pub use opening::{open, open_writable, store_status};

@@ -1,24 +1,25 @@
 //! The cartridge that the drive holds, opened: put in and mounted.
 
 ghost use Rattle.std.specs.Prelude.{◌≡◌, ◌≢◌, ℕ};
-ghost use Rattle.volume_store.specs.declared.opening.OpenFault.TheVariants.{Refused};
-ghost use Rattle.cartridge_front.specs.declared.fault.StoreFault.TheVariants.{Short};
+ghost use Rattle.segment_io.specs.declared.fault.StoreFault.TheVariants.{Short};
 ghost use Rattle.host_commands.specs.Opening.{OpeningEnds, StartAnswers, WritableEnds};
-ghost use Rattle.host_commands.specs.Statuses.{open_status as status_of_opening, store_status as status_of};
+ghost use Rattle.host_commands.specs.Statuses.{store_status as status_of};
 
 use command_spec::Status;
 use drive_states::Unit;
 use host_driver::Host;
-use qic_base::Tape;
-use volume_store::{OpenFault, Room, Store, StoreFault};
+use qic_base::{Tape, TapeFailed};
+use segment_io::StoreFault;
+use volume_store::{Room, Store};
 
 /// Puts the cartridge in and starts a host on it.
 pub fn start<T: Tape>(unit: &mut Unit<T>) -> Result<Host, Status>
     ensures { StartAnswers T.means unit.old unit.new result }
 {
     match volume_store::start(unit) {
-        Ok(host) => Ok(host),
-        Err(fault) => Err(open_status(fault)),
+        Ok(Some(host)) => Ok(host),
+        Ok(None) => Err(Status::NoCartridge),
+        Err(TapeFailed) => Err(Status::TapeFault),
     }
 }
 
@@ -27,8 +28,9 @@ pub fn open<T: Tape>(unit: &mut Unit<T>, room: Room) -> Result<Store, Status>
     ensures { OpeningEnds T.means unit.old.tape unit.new result }
 {
     match volume_store::open(unit, room) {
-        Ok(store) => Ok(store),
-        Err(fault) => Err(open_status(fault)),
+        Ok(Some(store)) => Ok(store),
+        Ok(None) => Err(Status::NoCartridge),
+        Err(fault) => Err(store_status(fault)),
     }
 }
 
@@ -36,27 +38,13 @@ pub fn open<T: Tape>(unit: &mut Unit<T>, room: Room) -> Result<Store, Status>
 pub fn open_writable<T: Tape>(unit: &mut Unit<T>, room: Room) -> Result<Store, Status>
     ensures { WritableEnds T.means unit.old.tape unit.new result }
 {
-    let host = match start(unit) {
-        Ok(host) => host,
-        Err(status) => return Err(status),
-    };
+    let host = start(unit)?;
     if host.protected() {
         return Err(Status::Protected);
     }
     match Store::mount(unit, host, room.work, room.map, room.table) {
         Ok(store) => Ok(store),
         Err(fault) => Err(store_status(fault)),
-    }
-}
-
-/// The answer that a cartridge makes that can't be opened.
-pub(crate) fn open_status(fault: OpenFault) -> Status
-    requires { (promised read : ℕ) → fault ≢ Refused (Short promised read) }
-    ensures { result ≡ status_of_opening fault }
-{
-    match fault {
-        OpenFault::NoCartridge => Status::NoCartridge,
-        OpenFault::Refused(fault) => store_status(fault),
     }
 }
 

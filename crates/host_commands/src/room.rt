@@ -3,7 +3,7 @@
 ghost use Rattle.command_spec.specs.declared.words.Words.TheVariants.{Room as tells_room};
 ghost use Rattle.command_laws.specs.RunTerms.{EndsBlind};
 
-use crate::opening::open_status;
+use crate::opening::store_status;
 use command_spec::Status;
 use drive_states::Unit;
 use hand_commands::printed;
@@ -16,7 +16,10 @@ pub fn tell_room<T: Tape, K: Sink>(unit: &mut Unit<T>, room: Room, sink: &mut K)
     ensures { EndsBlind T.means K.means tells_room unit.old.tape unit.new.tape sink.old sink.new result }
 {
     match find_room(unit, room) {
-        Ok(bytes) => printed(write_text(number_text(b"room", u64::from(bytes)).bytes(), sink)),
-        Err(fault) => open_status(fault),
+        Ok(Some(bytes)) => {
+            printed(write_text(number_text(b"room", u64::from(bytes)).bytes(), sink))
+        }
+        Ok(None) => Status::NoCartridge,
+        Err(fault) => store_status(fault),
     }
 }

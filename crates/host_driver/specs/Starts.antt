@@ -2,12 +2,11 @@
 use Rattle.std.specs.Prelude.{◌≡◌, ℕ, Bool, false, true, [], Option, Some, None, IfSome, Result, Ok, Err}
 use Rattle.std.specs.Option.{option_map}
 use Rattle.qic_base.specs.Tape.{Meaning, Done, Broke}
+use Rattle.qic_base.specs.declared.tape.TapeFailed.{TapeFailed}
 use Rattle.qic_base.specs.declared.tape.TapeInfo.{TapeInfo}
 use Rattle.drive_spec.specs.Terms.{power_on_deck}
 use Rattle.drive_spec.specs.Record.{Record, power_on}
 use Rattle.drive_states.specs.Unit.{UnitView}
-use Rattle.host_driver.specs.declared.fault.HostFault.{HostFault}
-use Rattle.host_driver.specs.declared.fault.HostFault.TheVariants.{NoCartridge, Protected, Tape}
 use Rattle.host_driver.specs.declared.host.Host.{Host}
 use Rattle.qic_base.specs.Cartridge.{info_of}
 
@@ -25,11 +24,10 @@ started_host segments protected referenced = record {
 }
 
 -- what a start did, by its answer
-abbrev pub Starts : {T : Type 0} (m : Meaning T) (old new : UnitView T) → Result Host HostFault → Type 0
-Starts m old new (Ok host) = (new.drive ≡ started_drive new.drive.deck.cartridge) × Done m old.tape new.tape []
-Starts m old new (Err NoCartridge) = (new.drive ≡ record (power_on None) { line = true }) × Done m old.tape new.tape []
-Starts m old new (Err Protected) = ⊥
-Starts m old new (Err Tape) = (new.drive ≡ power_on None) × Broke m old.tape new.tape []
+abbrev pub Starts : {T : Type 0} (m : Meaning T) (old new : UnitView T) → Result (Option Host) TapeFailed → Type 0
+Starts m old new (Ok (Some host)) = (new.drive ≡ started_drive new.drive.deck.cartridge) × Done m old.tape new.tape []
+Starts m old new (Ok None) = (new.drive ≡ record (power_on None) { line = true }) × Done m old.tape new.tape []
+Starts m old new (Err failed) = (new.drive ≡ power_on None) × Broke m old.tape new.tape []
 
 -- where the tape tells what it holds, the drive knows just that
 abbrev pub KnowsTold : {T : Type 0} (m : Meaning T) → UnitView T → Type 0

@@ -1,6 +1,6 @@
 //! What the host remembers, its start, and the trains that it sends.
 
-ghost use Rattle.std.specs.Prelude.{◌≡◌, ◌≢◌, [], None, Some, IsOk, IfOk, OnOk, OnErr, IsOkUnless};
+ghost use Rattle.std.specs.Prelude.{◌≡◌, [], None, Some, IsOk, IfOk, IfSome, OnOk, OnErr};
 ghost use Rattle.qic_base.specs.TapeCalls.{Does};
 ghost use Rattle.drive_spec.specs.Terms.{is_protected, is_referenced};
 ghost use Rattle.host_driver.specs.Calls.{IsReady};
@@ -12,13 +12,12 @@ ghost use Rattle.host_driver.specs.Train.{TakesTrain};
 ghost use Rattle.drive_states.specs.Unreferenced.{without_reference};
 
 use crate::dialogue::{read_report, send_train};
-use crate::fault::HostFault;
 use crate::report::Report;
 use bitflags::Flags;
 use drive_states::deck::{is_protected, power_on_deck};
 use drive_states::effects::unreferenced;
 use drive_states::{Deck, Parameter, Unit};
-use qic_base::{Tape, TapeInfo};
+use qic_base::{Tape, TapeFailed, TapeInfo};
 use qic117_commands::StatusBits;
 use tape_geometry::Geometry;
 
@@ -34,24 +33,22 @@ pub struct Host {
 
 impl Host {
     /// Puts the cartridge in, and learns by the reports of the status, the error word and the format segments what it
-    /// is.
-    pub fn start<T: Tape>(unit: &mut Unit<T>) -> Result<Host, HostFault>
+    /// is; None where the drive has none.
+    pub fn start<T: Tape>(unit: &mut Unit<T>) -> Result<Option<Host>, TapeFailed>
         ensures did { Starts T.means unit.old unit.new result }
-        ensures ready { IfOk result (λ host. IsReady T.means host unit.new) }
-        // NoCartridge comes exactly where the drive knows of none: where the tape tells what it holds, where that is none.
-        ensures absent { (result ≡ Err HostFault.NoCartridge) →
-            unit.new.drive.deck.cartridge ≡ None }
-        ensures told { result ≢ Err HostFault.Tape → KnowsTold T.means unit.new }
-        ensures size { result ≢ Err HostFault.Tape → KnowsSize T.means unit.new }
-        ensures agrees { OnOk result (AgreesWithTape T.means unit.new) }
-        ensures same_size { result ≡ Err HostFault.Tape →
-            T.means.size unit.new.tape ≡ T.means.size unit.old.tape }
+        ensures ready { IfOk result (λ found. IfSome found (λ host. IsReady T.means host unit.new)) }
+        // None comes exactly where the drive knows of none: where the tape tells what it holds, where that is none.
+        ensures absent { result ≡ Ok None → unit.new.drive.deck.cartridge ≡ None }
+        ensures told { OnOk result (KnowsTold T.means unit.new) }
+        ensures size { OnOk result (KnowsSize T.means unit.new) }
+        ensures agrees { IfOk result (λ found. IfSome found (λ host. AgreesWithTape T.means unit.new)) }
+        ensures same_size { OnErr result (T.means.size unit.new.tape ≡ T.means.size unit.old.tape) }
     {
         unit.insert()?;
         let word = read_report(unit, Report::Status);
         let status = StatusBits::from_bits_retain(word as u8);
         if !status.contains(StatusBits::PRESENT) {
-            return Err(HostFault::NoCartridge);
+            return Ok(None);
         }
         read_report(unit, Report::Error);
         let segments_per_track = read_report(unit, Report::FormatSegments);
@@ -59,7 +56,8 @@ impl Host {
             unreachable!("a cartridge has 3 segments per track or more, up to the greatest number")
         };
         let protected = status.contains(StatusBits::PROTECTED);
-        Ok(Host::learnt(geometry, protected, status.contains(StatusBits::REFERENCED)))
+        let referenced = status.contains(StatusBits::REFERENCED);
+        Ok(Some(Host::learnt(geometry, protected, referenced)))
     }
 
     /// A host that has learnt a cartridge's length and its marks.
@@ -108,7 +106,7 @@ impl Host {
 
     /// Sends a train of pulses and a gap. Each refusal of the drive is ruled out; the fault is a tape that failed to
     /// write the reference bursts.
-    pub fn send<T: Tape>(&mut self, unit: &mut Unit<T>, pulses: u8) -> Result<(), HostFault>
+    pub fn send<T: Tape>(&mut self, unit: &mut Unit<T>, pulses: u8) -> Result<(), TapeFailed>
         requires fits { Fits T.means self.old unit.old }
         requires taken { TakesTrain unit.old.drive pulses }
         ensures row { OnOk result (unit.new.drive ≡ pulsed_row unit.old.drive pulses) }
@@ -116,7 +114,6 @@ impl Host {
             (unit.new.drive ≡ without_reference (pulsed_row unit.old.drive pulses)) }
         ensures did { Does T.means unit.old.tape unit.new.tape
             (train_changes unit.old.drive pulses) result }
-        ensures fault { IsOkUnless result HostFault.Tape }
         ensures ok { train_changes unit.old.drive pulses ≡ [] → IsOk result }
         ensures untouched { train_changes unit.old.drive pulses ≡ [] →
             unit.new.tape ≡ unit.old.tape }
@@ -127,7 +124,7 @@ impl Host {
         self.follow(pulses);
         if sent.is_err() {
             self.deck = unreferenced(self.deck);
-            return Err(HostFault::Tape);
+            return Err(TapeFailed);
         }
         Ok(())
     }

@@ -14,6 +14,6 @@ mod sectors;
 mod waits;
 
 pub use drive_states::HandFault;
-pub use fault::HostFault;
+pub use fault::WriteProtected;
 pub use host::Host;
 pub use report::Report;

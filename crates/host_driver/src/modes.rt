@@ -1,6 +1,6 @@
 //! Modes, and the reference bursts.
 
-ghost use Rattle.std.specs.Prelude.{◌≡◌, ◌↔◌, [], ◌∷◌, None, true, false, OnOk, OnErr, IsOkUnless};
+ghost use Rattle.std.specs.Prelude.{◌≡◌, ◌↔◌, [], ◌∷◌, None, true, false, OnOk, OnErr, IsErr};
 ghost use Rattle.qic_base.specs.Step.{SetReferenced};
 ghost use Rattle.qic_base.specs.TapeCalls.{Does};
 ghost use Rattle.qic117_commands.specs.Views.{is_format};
@@ -12,23 +12,22 @@ ghost use Rattle.host_driver.specs.Commands.{entry_of};
 ghost use Rattle.host_driver.specs.Fits.{Fits, IsAtRest, AgreesWithTape};
 ghost use Rattle.host_driver.specs.Place.{StandsAt};
 
-use crate::fault::HostFault;
+use crate::fault::WriteProtected;
 use crate::host::Host;
 use drive_states::Unit;
 use drive_states::deck::refusal;
-use qic_base::Tape;
+use qic_base::{Tape, TapeFailed};
 use qic117_commands::{Command, Mode};
 
 impl Host {
     /// Has the drive enter a mode, where the tape stands. Where the present mode refuses that, it enters Primary first.
     /// Verify needs a cartridge with its reference bursts.
-    pub fn enter<T: Tape>(&mut self, unit: &mut Unit<T>, mode: Mode) -> Result<(), HostFault>
+    pub fn enter<T: Tape>(&mut self, unit: &mut Unit<T>, mode: Mode) -> Result<(), WriteProtected>
         requires ready { IsReady T.means self.old unit.old }
         requires stopped { is_stopped unit.old.drive.deck.motion ≡ true }
         requires referenced { mode ≡ Mode.Verify → is_referenced unit.old.drive.deck ≡ true }
-        ensures protected { (result ≡ Err HostFault.Protected)
+        ensures protected { IsErr result
             ↔ ((mode ≡ Mode.Format) × (is_protected unit.old.drive.deck ≡ true)) }
-        ensures fault { IsOkUnless result HostFault.Protected }
         ensures refused { OnErr result ((unit.new ≡ unit.old) × (self.new ≡ self.old)) }
         ensures mode { OnOk result (unit.new.drive.deck.mode ≡ mode) }
         ensures place { StandsAt unit.old.drive.deck.track unit.old.drive.deck.offset
@@ -38,7 +37,7 @@ impl Host {
         ensures ready { IsReady T.means self.new unit.new }
     {
         if mode == Mode::Format && self.protected() {
-            return Err(HostFault::Protected);
+            return Err(WriteProtected);
         }
         if refusal(&self.deck, entry_of(mode)).is_none() {
             self.enter_at_once(unit, mode);
@@ -67,12 +66,11 @@ impl Host {
 
     /// Has the drive write the reference bursts, in Format mode where the tape stands, and waits for it. After a
     /// failure the drive still seeks, and knows the cartridge as not referenced.
-    pub fn reference<T: Tape>(&mut self, unit: &mut Unit<T>) -> Result<(), HostFault>
+    pub fn reference<T: Tape>(&mut self, unit: &mut Unit<T>) -> Result<(), TapeFailed>
         requires ready { IsReady T.means self.old unit.old }
         requires format { is_format unit.old.drive.deck.mode ≡ true }
         requires stopped { is_stopped unit.old.drive.deck.motion ≡ true }
         ensures did { Does T.means unit.old.tape unit.new.tape (SetReferenced ∷ []) result }
-        ensures fault { IsOkUnless result HostFault.Tape }
         ensures marks { OnOk result (unit.new.drive.deck.cartridge
             ≡ referenced_as true unit.old.drive.deck.cartridge) }
         ensures unmarked { OnErr result (unit.new.drive.deck.cartridge

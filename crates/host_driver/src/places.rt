@@ -1,6 +1,6 @@
 //! The way to a segment.
 
-ghost use Rattle.std.specs.Prelude.{◌≡◌, ◌<◌, ◌*◌, true, false, IsOk};
+ghost use Rattle.std.specs.Prelude.{◌≡◌, ◌<◌, ◌*◌, true, false};
 ghost use Rattle.tape_geometry.specs.Geometry.{logical_offset};
 ghost use Rattle.qic117_commands.specs.Views.{is_format};
 ghost use Rattle.drive_spec.specs.Deck.{segments_per_track, is_stopped, is_streaming};
@@ -11,7 +11,6 @@ ghost use Rattle.host_driver.specs.Calls.{IsReady, Keeps};
 ghost use Rattle.host_driver.specs.Place.{StreamsAt, StandsAt, KeepsMode, RunsOn, idled_deck};
 ghost use Rattle.host_driver.specs.Train.{ready_deck};
 
-use crate::fault::HostFault;
 use crate::host::Host;
 use drive_states::Unit;
 use drive_states::deck::is_streaming;
@@ -21,13 +20,12 @@ use qic117_commands::{Command, Mode};
 impl Host {
     /// Has the tape stream at a segment, before its sector 0, from wherever it stands or streams. The cartridge has its
     /// reference bursts, and in Format mode the segment is the first of its track.
-    pub fn go_to<T: Tape>(&mut self, unit: &mut Unit<T>, segment: u32) -> Result<(), HostFault>
+    pub fn go_to<T: Tape>(&mut self, unit: &mut Unit<T>, segment: u32)
         requires ready { IsReady T.means self.old unit.old }
         requires on_tape { segment < 28 * segments_per_track unit.old.drive.deck }
         requires referenced { is_referenced unit.old.drive.deck ≡ true }
         requires first { is_format unit.old.drive.deck.mode ≡ true →
             logical_offset (segments_per_track unit.old.drive.deck) segment ≡ 0 }
-        ensures ok { IsOk result }
         ensures place { StreamsAt segment 0 unit.new.drive.deck }
         ensures tape { unit.new.tape ≡ unit.old.tape }
         ensures keeps { Keeps T.means self.new unit.old unit.new }
@@ -38,13 +36,11 @@ impl Host {
         self.align_track(unit, track);
         self.align_offset(unit, offset);
         self.forward(unit);
-        Ok(())
     }
 
     /// Has the tape that streams run on to the next segment of its track, or behind the last; one that stands stays.
-    pub fn next_segment<T: Tape>(&mut self, unit: &mut Unit<T>) -> Result<(), HostFault>
+    pub fn next_segment<T: Tape>(&mut self, unit: &mut Unit<T>)
         requires ready { IsReady T.means self.old unit.old }
-        ensures ok { IsOk result }
         ensures deck { unit.new.drive.deck ≡ idled_deck unit.old.drive.deck }
         ensures next { is_streaming unit.old.drive.deck.motion ≡ true →
             RunsOn unit.old.drive.deck unit.new.drive.deck }
@@ -52,19 +48,16 @@ impl Host {
         ensures keeps { Keeps T.means self.new unit.old unit.new }
     {
         self.tell(unit, 0);
-        Ok(())
     }
 
     /// Stops the tape; the segment in which it streamed comes next.
-    pub fn halt<T: Tape>(&mut self, unit: &mut Unit<T>) -> Result<(), HostFault>
+    pub fn halt<T: Tape>(&mut self, unit: &mut Unit<T>)
         requires ready { IsReady T.means self.old unit.old }
-        ensures ok { IsOk result }
         ensures deck { unit.new.drive.deck ≡ ready_deck unit.old.drive.deck }
         ensures tape { unit.new.tape ≡ unit.old.tape }
         ensures keeps { Keeps T.means self.new unit.old unit.new }
     {
         self.command(unit, Command::StopTape);
-        Ok(())
     }
 
     /// Stops the tape where it streams.

@@ -1,6 +1,6 @@
 //! Sectors under the head, and what a person does to one.
 
-ghost use Rattle.std.specs.Prelude.{◌≡◌, ◌≢◌, ◌<◌, ◌+◌, [], ◌∷◌, true, false, IsOkUnless, IfOk, OnOk, OnErr, MatchResult};
+ghost use Rattle.std.specs.Prelude.{◌≡◌, ◌≢◌, ◌<◌, ◌+◌, [], ◌∷◌, true, false, IfOk, OnOk, OnErr, MatchResult};
 ghost use Rattle.qic_base.specs.Cartridge.{IsPlace, view_at};
 ghost use Rattle.qic_base.specs.Step.{write_sector, WriteSectors, FormatSegment};
 ghost use Rattle.qic_base.specs.TapeCalls.{Does, Tells, Reads, write_answer, ReadsSectors, KeepsOthers, chosen, AreBlank};
@@ -14,11 +14,10 @@ ghost use Rattle.host_driver.specs.Calls.{IsReady, MayWrite, Keeps};
 ghost use Rattle.host_driver.specs.Place.{RunsOn};
 ghost use Rattle.host_driver.specs.Sectors.{deck_after_read, deck_after_write};
 
-use crate::fault::HostFault;
 use crate::host::Host;
 use drive_states::effects::{passed, passed_all, run_on};
 use drive_states::{FdcFault, HandFault, Unit};
-use qic_base::{LostSet, Sector, SectorRead, SectorWrite, SectorsRead, Tape};
+use qic_base::{LostSet, Sector, SectorRead, SectorWrite, SectorsRead, Tape, TapeFailed};
 
 impl Host {
     /// Reads a sector of the segment in which the tape streams, one that the head has yet to reach. `into` is unchanged
@@ -29,13 +28,12 @@ impl Host {
         segment: u32,
         sector: u8,
         into: &mut Sector,
-    ) -> Result<SectorRead, HostFault>
+    ) -> Result<SectorRead, TapeFailed>
         requires ready { IsReady T.means self.old unit.old }
         requires mode { reads_in unit.old.drive.deck.mode ≡ true }
         requires under { IsUnder unit.old.drive.deck segment sector }
         requires sector { sector < 32 }
         ensures did { Does T.means unit.old.tape unit.new.tape [] result }
-        ensures fault { IsOkUnless result HostFault.Tape }
         ensures view { IfOk result (λ answer. Tells T.means unit.old.tape (λ c.
             Reads (view_at c segment sector) into.old into.new answer)) }
         ensures unchanged { result ≢ Ok SectorRead.Good → into.new ≡ into.old }
@@ -45,12 +43,11 @@ impl Host {
         ensures under { IsUnder unit.new.drive.deck segment (sector + 1) }
         ensures keeps { Keeps T.means self.new unit.old unit.new }
     {
-        let answer = match self.read_under(unit, segment, sector, into) {
+        let answer = match self.read_under(unit, segment, sector, into)? {
             Ok(()) => SectorRead::Good,
             Err(FdcFault::Unreadable) => SectorRead::Lost,
             Err(FdcFault::NoAddress) => return Ok(SectorRead::Blank),
             Err(FdcFault::Protected) => unreachable!("only a write minds the protect mark"),
-            Err(FdcFault::Tape) => return Err(HostFault::Tape),
         };
         self.deck = passed(self.deck, sector);
         Ok(answer)
@@ -63,7 +60,7 @@ impl Host {
         segment: u32,
         sector: u8,
         into: &mut Sector,
-    ) -> Result<(), FdcFault>
+    ) -> Result<Result<(), FdcFault>, TapeFailed>
         requires ready { IsReady T.means self.now unit.old }
         requires mode { reads_in unit.old.drive.deck.mode ≡ true }
         requires under { IsUnder unit.old.drive.deck segment sector }
@@ -84,14 +81,13 @@ impl Host {
         segment: u32,
         sector: u8,
         from: &Sector,
-    ) -> Result<SectorWrite, HostFault>
+    ) -> Result<SectorWrite, TapeFailed>
         requires ready { IsReady T.means self.old unit.old }
         requires writable { MayWrite unit.old.drive.deck }
         requires under { IsUnder unit.old.drive.deck segment sector }
         requires sector { sector < 32 }
         ensures did { Does T.means unit.old.tape unit.new.tape
             (write_sector segment sector from.now ∷ []) result }
-        ensures fault { IsOkUnless result HostFault.Tape }
         ensures answer { IfOk result (λ answer. Tells T.means unit.old.tape (λ c.
             answer ≡ write_answer (view_at c segment sector))) }
         ensures head { MatchResult result
@@ -100,7 +96,7 @@ impl Host {
         ensures under { IsUnder unit.new.drive.deck segment (sector + 1) }
         ensures keeps { Keeps T.means self.new unit.old unit.new }
     {
-        match self.write_under(unit, segment, sector, from) {
+        match self.write_under(unit, segment, sector, from)? {
             Ok(()) => {
                 self.deck = passed(self.deck, sector);
                 Ok(SectorWrite::Taken)
@@ -109,7 +105,6 @@ impl Host {
             Err(FdcFault::Protected | FdcFault::Unreadable) => {
                 unreachable!("the cartridge may be written, and a write reads nothing")
             }
-            Err(FdcFault::Tape) => Err(HostFault::Tape),
         }
     }
 
@@ -120,7 +115,7 @@ impl Host {
         segment: u32,
         sector: u8,
         from: &Sector,
-    ) -> Result<(), FdcFault>
+    ) -> Result<Result<(), FdcFault>, TapeFailed>
         requires ready { IsReady T.means self.now unit.old }
         requires writable { MayWrite unit.old.drive.deck }
         requires under { IsUnder unit.old.drive.deck segment sector }
@@ -142,12 +137,11 @@ impl Host {
         segment: u32,
         wanted: LostSet,
         into: &mut [Sector; 32],
-    ) -> Result<SectorsRead, HostFault>
+    ) -> Result<SectorsRead, TapeFailed>
         requires ready { IsReady T.means self.old unit.old }
         requires mode { reads_in unit.old.drive.deck.mode ≡ true }
         requires under { IsUnder unit.old.drive.deck segment 0 }
         ensures did { Does T.means unit.old.tape unit.new.tape [] result }
-        ensures fault { IsOkUnless result HostFault.Tape }
         ensures reads { IfOk result (λ read. Tells T.means unit.old.tape (λ c.
             ReadsSectors wanted read.good read.blank (view_at c segment) into.old into.new)) }
         ensures kept { IfOk result (λ read. KeepsOthers read.good into.old into.new) }
@@ -158,15 +152,12 @@ impl Host {
         ensures under { IsUnder unit.new.drive.deck segment 32 }
         ensures keeps { Keeps T.means self.new unit.old unit.new }
     {
-        match self.read_all_under(unit, segment, wanted, into) {
+        match self.read_all_under(unit, segment, wanted, into)? {
             Ok(read) => {
                 self.deck = passed_all(self.deck, wanted, read.blank);
                 Ok(read)
             }
-            Err(FdcFault::Tape) => Err(HostFault::Tape),
-            Err(FdcFault::NoAddress | FdcFault::Protected | FdcFault::Unreadable) => {
-                unreachable!("no sector is below the first, and the answer tells of each")
-            }
+            Err(_) => { unreachable!("no sector is below the first, and the answer tells of each") }
         }
     }
 
@@ -177,7 +168,7 @@ impl Host {
         segment: u32,
         wanted: LostSet,
         into: &mut [Sector; 32],
-    ) -> Result<SectorsRead, FdcFault>
+    ) -> Result<Result<SectorsRead, FdcFault>, TapeFailed>
         requires ready { IsReady T.means self.now unit.old }
         requires mode { reads_in unit.old.drive.deck.mode ≡ true }
         requires under { IsUnder unit.old.drive.deck segment 0 }
@@ -198,13 +189,12 @@ impl Host {
         segment: u32,
         written: LostSet,
         from: &[Sector; 32],
-    ) -> Result<LostSet, HostFault>
+    ) -> Result<LostSet, TapeFailed>
         requires ready { IsReady T.means self.old unit.old }
         requires writable { MayWrite unit.old.drive.deck }
         requires under { IsUnder unit.old.drive.deck segment 0 }
         ensures did { Does T.means unit.old.tape unit.new.tape
             (WriteSectors segment (chosen written from.now) ∷ []) result }
-        ensures fault { IsOkUnless result HostFault.Tape }
         ensures answer { IfOk result (λ blank. Tells T.means unit.old.tape (λ c.
             AreBlank written blank (view_at c segment))) }
         ensures head { MatchResult result
@@ -213,13 +203,12 @@ impl Host {
         ensures under { IsUnder unit.new.drive.deck segment 32 }
         ensures keeps { Keeps T.means self.new unit.old unit.new }
     {
-        match self.write_all_under(unit, segment, written, from) {
+        match self.write_all_under(unit, segment, written, from)? {
             Ok(blank) => {
                 self.deck = passed_all(self.deck, written, blank);
                 Ok(blank)
             }
-            Err(FdcFault::Tape) => Err(HostFault::Tape),
-            Err(FdcFault::NoAddress | FdcFault::Protected | FdcFault::Unreadable) => {
+            Err(_) => {
                 unreachable!("no sector is below the first, and the cartridge may be written")
             }
         }
@@ -232,7 +221,7 @@ impl Host {
         segment: u32,
         written: LostSet,
         from: &[Sector; 32],
-    ) -> Result<LostSet, FdcFault>
+    ) -> Result<Result<LostSet, FdcFault>, TapeFailed>
         requires ready { IsReady T.means self.now unit.old }
         requires writable { MayWrite unit.old.drive.deck }
         requires under { IsUnder unit.old.drive.deck segment 0 }
@@ -245,26 +234,22 @@ impl Host {
     }
 
     /// Formats the segment in which the tape streams, in Format mode, and the tape runs on.
-    pub fn format_here<T: Tape>(&mut self, unit: &mut Unit<T>) -> Result<(), HostFault>
+    pub fn format_here<T: Tape>(&mut self, unit: &mut Unit<T>) -> Result<(), TapeFailed>
         requires ready { IsReady T.means self.old unit.old }
         requires formatting { IsFormatting unit.old.drive.deck }
         ensures did { Does T.means unit.old.tape unit.new.tape
             (FormatSegment (segment_of unit.old.drive.deck) ∷ []) result }
-        ensures fault { IsOkUnless result HostFault.Tape }
         ensures deck { OnOk result (unit.new.drive.deck ≡ run_on unit.old.drive.deck) }
         ensures next { OnOk result (RunsOn unit.old.drive.deck unit.new.drive.deck) }
         ensures failed { OnErr result (unit.new.drive.deck ≡ unit.old.drive.deck) }
         ensures keeps { Keeps T.means self.new unit.old unit.new }
     {
-        match unit.format_segment() {
+        match unit.format_segment()? {
             Ok(()) => {
                 self.deck = run_on(self.deck);
                 Ok(())
             }
-            Err(FdcFault::Tape) => Err(HostFault::Tape),
-            Err(FdcFault::NoAddress | FdcFault::Protected | FdcFault::Unreadable) => {
-                unreachable!("the drive is in Format mode, and its tape streams")
-            }
+            Err(_) => { unreachable!("the drive is in Format mode, and its tape streams") }
         }
     }
 

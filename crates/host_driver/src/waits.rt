@@ -1,6 +1,6 @@
 //! Reports, and the wait for a seek.
 
-ghost use Rattle.std.specs.Prelude.{◌≡◌, ◌≤◌, Ok, None, true, false};
+ghost use Rattle.std.specs.Prelude.{◌≡◌, ◌≤◌, None, true, false};
 ghost use Rattle.drive_spec.specs.Terms.{refusal_of};
 ghost use Rattle.drive_spec.specs.Deck.{is_streaming, is_stopped};
 ghost use Rattle.drive_spec.specs.Effects.{ticked};
@@ -14,7 +14,6 @@ ghost use Rattle.host_driver.specs.Train.{ready_deck};
 ghost use Rattle.host_driver.specs.declared.report.Report.TheVariants.{Status};
 
 use crate::dialogue::read_report;
-use crate::fault::HostFault;
 use crate::host::Host;
 use crate::report::Report;
 use bitflags::Flags;
@@ -26,16 +25,16 @@ impl Host {
     /// Has the drive report a word, and leaves it as it is. No row may refuse the report: a tape that streams reports
     /// its status and its error word alone.
     #[tactic(auto, using(crate::proofs::Reporting::resting))]
-    pub fn report<T: Tape>(&mut self, unit: &mut Unit<T>, kind: Report) -> Result<u16, HostFault>
+    pub fn report<T: Tape>(&mut self, unit: &mut Unit<T>, kind: Report) -> u16
         requires ready { IsReady T.means self.old unit.old }
         requires taken { refusal_of unit.old.drive.deck (command_of kind) ≡ None }
-        ensures word { result ≡ Ok (report_word (command_of kind) unit.old.drive.deck) }
+        ensures word { result ≡ report_word (command_of kind) unit.old.drive.deck }
         ensures unit { unit.new
             ≡ record unit.old { drive = record unit.old.drive { line = true } } }
         ensures host { self.new ≡ self.old }
         ensures ready { IsReady T.means self.new unit.new }
     {
-        Ok(read_report(unit, kind))
+        read_report(unit, kind)
     }
 
     /// Waits until the drive is ready: the number of reports of the status until one shows that, 1 to 17.

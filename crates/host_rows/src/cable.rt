@@ -1,6 +1,6 @@
 //! Cartridges in a drive, hosts that know them, and what the drive shows past its host.
 
-ghost use Rattle.std.specs.Prelude.{◌≡◌, ◌≤◌, true, false, IfOk, OnOk};
+ghost use Rattle.std.specs.Prelude.{◌≡◌, ◌≤◌, true, false, IfSome, OnSome};
 ghost use Rattle.drive_spec.specs.Deck.{segments_per_track, is_stopped};
 ghost use Rattle.drive_spec.specs.Terms.{is_protected, is_referenced};
 ghost use Rattle.host_driver.specs.Fits.{Fits, IsAtRest};
@@ -8,8 +8,8 @@ ghost use Rattle.qic_mem.specs.Tape.{tape_means};
 
 use crate::trains::{WRITTEN, report, train, write_one};
 use drive_states::{FdcFault, FloppyAddr, HandFault, Unit};
-use host_driver::{Host, HostFault};
-use qic_base::{Sector, Tape};
+use host_driver::Host;
+use qic_base::{Sector, Tape, TapeFailed};
 use qic_mem::MemTape;
 use qic117_commands::Mode;
 use std::alloc::Global;
@@ -40,22 +40,24 @@ pub fn written(rt: &impl Abort, alloc: Global, fails: &[u64]) -> Unit<MemTape> {
 /// their proofs short.
 pub fn put_away(_unit: Unit<MemTape>) {}
 
-/// A host that knows a referenced cartridge of three segments per track, which may be written; any other is answered
-/// `NoCartridge`. It puts the cartridge in by one call of the tape.
-pub fn begun(unit: &mut Unit<MemTape>) -> Result<Host, HostFault>
-    ensures fits { IfOk result (λ host. Fits tape_means host unit.new) }
-    ensures rest { OnOk result (IsAtRest unit.new.drive) }
-    ensures stopped { OnOk result (is_stopped unit.new.drive.deck.motion ≡ true) }
-    ensures mode { OnOk result (unit.new.drive.deck.mode ≡ Mode.Primary) }
-    ensures writable { OnOk result (is_protected unit.new.drive.deck ≡ false) }
-    ensures referenced { OnOk result (is_referenced unit.new.drive.deck ≡ true) }
-    ensures length { OnOk result (segments_per_track unit.new.drive.deck ≡ 3) }
+/// A host that knows a referenced cartridge of three segments per track, which may be written; None where there is
+/// another or none, or the tape fails. It puts the cartridge in by one call of the tape.
+pub fn begun(unit: &mut Unit<MemTape>) -> Option<Host>
+    ensures fits { IfSome result (λ host. Fits tape_means host unit.new) }
+    ensures rest { OnSome result (IsAtRest unit.new.drive) }
+    ensures stopped { OnSome result (is_stopped unit.new.drive.deck.motion ≡ true) }
+    ensures mode { OnSome result (unit.new.drive.deck.mode ≡ Mode.Primary) }
+    ensures writable { OnSome result (is_protected unit.new.drive.deck ≡ false) }
+    ensures referenced { OnSome result (is_referenced unit.new.drive.deck ≡ true) }
+    ensures length { OnSome result (segments_per_track unit.new.drive.deck ≡ 3) }
 {
-    let host = Host::start(unit)?;
+    let Ok(Some(host)) = Host::start(unit) else {
+        return None;
+    };
     if host.protected() || !host.referenced() || host.geometry().segments_per_track() != 3 {
-        return Err(HostFault::NoCartridge);
+        return None;
     }
-    Ok(host)
+    Some(host)
 }
 
 /// Something done to a drive past any host, with what has to come of it.
@@ -86,8 +88,10 @@ pub enum Row {
     Shows(FloppyAddr, u8),
     /// A read that is refused, and leaves the bytes as they were.
     Refuses(FloppyAddr, FdcFault),
+    /// A read in which the tape fails, and which leaves the bytes as they were.
+    Fails(FloppyAddr),
     /// A write of bytes `WRITTEN`.
-    Write(FloppyAddr, Result<(), FdcFault>),
+    Write(FloppyAddr, Result<Result<(), FdcFault>, TapeFailed>),
     /// The segment under the head is formatted.
     Format,
 }
@@ -103,7 +107,10 @@ fn reports_of_the_status(unit: &mut Unit<MemTape>) -> u8 {
 }
 
 /// The answer to a read, and what the bytes 1 became.
-fn read(unit: &mut Unit<MemTape>, addr: FloppyAddr) -> (Result<(), FdcFault>, Sector) {
+fn read(
+    unit: &mut Unit<MemTape>,
+    addr: FloppyAddr,
+) -> (Result<Result<(), FdcFault>, TapeFailed>, Sector) {
     let mut into = [1; 1024];
     (unit.read_sector(addr, &mut into), into)
 }
@@ -122,10 +129,11 @@ fn holds(unit: &mut Unit<MemTape>, row: Row) -> bool {
         Row::Status(word) => report(unit, 6, 8) == Some(word),
         Row::Error(word) => report(unit, 7, 16) == Some(word),
         Row::AtLoadPoint => reports_of_the_status(unit) == 17,
-        Row::Shows(addr, byte) => read(unit, addr) == (Ok(()), [byte; 1024]),
-        Row::Refuses(addr, fault) => read(unit, addr) == (Err(fault), [1; 1024]),
+        Row::Shows(addr, byte) => read(unit, addr) == (Ok(Ok(())), [byte; 1024]),
+        Row::Refuses(addr, fault) => read(unit, addr) == (Ok(Err(fault)), [1; 1024]),
+        Row::Fails(addr) => read(unit, addr) == (Err(TapeFailed), [1; 1024]),
         Row::Write(addr, answer) => unit.write_sector(addr, &[WRITTEN; 1024]) == answer,
-        Row::Format => unit.format_segment() == Ok(()),
+        Row::Format => unit.format_segment() == Ok(Ok(())),
     }
 }
 

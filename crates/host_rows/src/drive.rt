@@ -4,7 +4,7 @@
 use crate::cable::{Row, first_wrong, put_away, tape, written};
 use crate::trains::{WRITTEN, front};
 use drive_states::{FdcFault, HandFault, Unit};
-use qic_base::Tape;
+use qic_base::{Tape, TapeFailed};
 use qic_mem::SureTape;
 use std::alloc::Global;
 use std::process::Abort;
@@ -67,8 +67,8 @@ fn sectors_are_written_as_they_pass(rt: HostRuntime) {
         // The error word is told, which clears the new cartridge flag.
         Row::Error(0),
         Row::Train(10),
-        Row::Write(front(6), Ok(())),
-        Row::Write(front(6), Err(FdcFault::NoAddress)),
+        Row::Write(front(6), Ok(Ok(()))),
+        Row::Write(front(6), Ok(Err(FdcFault::NoAddress))),
         // The tape stops before the segment, and comes to it again.
         Row::Train(18),
         Row::Train(10),
@@ -77,7 +77,7 @@ fn sectors_are_written_as_they_pass(rt: HostRuntime) {
         Row::Protect(true, Ok(())),
         Row::Error(0),
         Row::Train(10),
-        Row::Write(front(5), Err(FdcFault::Protected)),
+        Row::Write(front(5), Ok(Err(FdcFault::Protected))),
         Row::Shows(front(5), 0),
     ];
     assert_eq!(rt; first_wrong_written(&rt, rt.alloc(), &[], &rows), None);
@@ -91,10 +91,10 @@ fn a_fault_of_the_tape_leaves_the_head_where_it_was(rt: HostRuntime) {
         Row::Insert,
         Row::Error(0),
         Row::Train(10),
-        Row::Refuses(front(1), FdcFault::Tape),
+        Row::Fails(front(1)),
         Row::Shows(front(1), 0),
-        Row::Write(front(2), Err(FdcFault::Tape)),
-        Row::Write(front(2), Ok(())),
+        Row::Write(front(2), Err(TapeFailed)),
+        Row::Write(front(2), Ok(Ok(()))),
         Row::Upgrade(Err(HandFault::Tape)),
         Row::Status(0x01),
     ];

@@ -3,26 +3,39 @@
 use crate::cable::{Row, blank, first_wrong, put_away};
 use crate::trains::front;
 use drive_states::{FdcFault, Unit};
-use host_driver::{Host, HostFault};
+use host_driver::Host;
+use qic_base::TapeFailed;
 use qic_mem::MemTape;
 use qic117_commands::Mode;
 
-/// Has a host write the reference bursts. The answer, and whether the host knows the cartridge as referenced then.
-fn reference(unit: &mut Unit<MemTape>) -> Result<(Result<(), HostFault>, bool), HostFault> {
-    let mut host = Host::start(unit)?;
-    host.enter(unit, Mode::Format)?;
+/// Has a host write the reference bursts. The answer, and whether the host knows the cartridge as referenced then; None
+/// where it comes to no writing.
+fn reference(unit: &mut Unit<MemTape>) -> Option<(Result<(), TapeFailed>, bool)> {
+    let Ok(Some(mut host)) = Host::start(unit) else {
+        return None;
+    };
+    let Ok(()) = host.enter(unit, Mode::Format) else {
+        return None;
+    };
     let answer = host.reference(unit);
-    Ok((answer, host.referenced()))
+    Some((answer, host.referenced()))
 }
 
-/// Has a host write the reference bursts and format segment 0. On a cartridge of `blank` call 1 of the tape puts it in,
-/// 2 writes the bursts and 3 formats the segment: modes and the way there make none.
-fn format_first(unit: &mut Unit<MemTape>) -> Result<(), HostFault> {
-    let mut host = Host::start(unit)?;
-    host.enter(unit, Mode::Format)?;
-    host.reference(unit)?;
-    host.go_to(unit, 0)?;
-    host.format_here(unit)
+/// Has a host write the reference bursts and format segment 0. The answer of the format; None where it comes to none.
+/// On a cartridge of `blank` call 1 of the tape puts it in, 2 writes the bursts and 3 formats the segment: modes and
+/// the way there make none.
+fn format_first(unit: &mut Unit<MemTape>) -> Option<Result<(), TapeFailed>> {
+    let Ok(Some(mut host)) = Host::start(unit) else {
+        return None;
+    };
+    let Ok(()) = host.enter(unit, Mode::Format) else {
+        return None;
+    };
+    let Ok(()) = host.reference(unit) else {
+        return None;
+    };
+    host.go_to(unit, 0);
+    Some(host.format_here(unit))
 }
 
 #[test]
@@ -44,7 +57,7 @@ fn a_format_that_fails_leaves_the_head_at_its_segment(rt: HostRuntime) {
     ];
     let seen = (answer, first_wrong(&mut unit, &rows));
     put_away(unit);
-    assert_eq!(rt; seen, (Err(HostFault::Tape), None));
+    assert_eq!(rt; seen, (Some(Err(TapeFailed)), None));
 }
 
 #[test]
@@ -65,8 +78,8 @@ fn a_drive_without_its_bursts_is_on_its_way(rt: HostRuntime) {
     assert_eq!(rt;
         seen,
         [
-            (Ok((Err(HostFault::Tape), false)), None),
-            (Ok((Ok(()), true)), None),
+            (Some((Err(TapeFailed), false)), None),
+            (Some((Ok(()), true)), None),
         ]
     );
 }

@@ -1,23 +1,23 @@
-//! The first sector of segment 4, and several of it in one call, read, written and worn through a host, where the tape fails.
-//! cartridge in; the way makes none, and 6 is the sector's.
+//! The first sector of segment 4, and several of it in one call, read, written and worn through a host, where the tape
+//! fails. Call 5 of it puts the cartridge in; the way makes none, and 6 is the sector's.
 
 use crate::cable::{Row, begun, first_wrong, put_away, written};
 use crate::trains::{FIRST_OF_FOUR, WRITTEN};
 use drive_states::Unit;
-use host_driver::{HandFault, HostFault};
-use qic_base::{LostSet, Sector, SectorRead, SectorWrite, SectorsRead};
+use host_driver::HandFault;
+use qic_base::{LostSet, Sector, SectorRead, SectorWrite, SectorsRead, TapeFailed};
 use qic_mem::MemTape;
 
-fn read(unit: &mut Unit<MemTape>, into: &mut Sector) -> Result<SectorRead, HostFault> {
+fn read(unit: &mut Unit<MemTape>, into: &mut Sector) -> Option<Result<SectorRead, TapeFailed>> {
     let mut host = begun(unit)?;
-    host.go_to(unit, 4)?;
-    host.read_sector(unit, 4, 0, into)
+    host.go_to(unit, 4);
+    Some(host.read_sector(unit, 4, 0, into))
 }
 
-fn write(unit: &mut Unit<MemTape>, from: &Sector) -> Result<SectorWrite, HostFault> {
+fn write(unit: &mut Unit<MemTape>, from: &Sector) -> Option<Result<SectorWrite, TapeFailed>> {
     let mut host = begun(unit)?;
-    host.go_to(unit, 4)?;
-    host.write_sector(unit, 4, 0, from)
+    host.go_to(unit, 4);
+    Some(host.write_sector(unit, 4, 0, from))
 }
 
 /// Reads sectors of segment 4 in one call.
@@ -25,10 +25,10 @@ fn read_several(
     unit: &mut Unit<MemTape>,
     wanted: u32,
     into: &mut [Sector; 32],
-) -> Result<SectorsRead, HostFault> {
+) -> Option<Result<SectorsRead, TapeFailed>> {
     let mut host = begun(unit)?;
-    host.go_to(unit, 4)?;
-    host.read_sectors(unit, 4, LostSet::from_mask(wanted), into)
+    host.go_to(unit, 4);
+    Some(host.read_sectors(unit, 4, LostSet::from_mask(wanted), into))
 }
 
 /// Writes sectors of segment 4 in one call.
@@ -36,28 +36,24 @@ fn write_several(
     unit: &mut Unit<MemTape>,
     written: u32,
     from: &[Sector; 32],
-) -> Result<LostSet, HostFault> {
+) -> Option<Result<LostSet, TapeFailed>> {
     let mut host = begun(unit)?;
-    host.go_to(unit, 4)?;
-    host.write_sectors(unit, 4, LostSet::from_mask(written), from)
+    host.go_to(unit, 4);
+    Some(host.write_sectors(unit, 4, LostSet::from_mask(written), from))
 }
 
 /// What a read finds where these sectors are good and none is blank.
-fn all_good(good: u32) -> Result<SectorsRead, HostFault> {
-    Ok(SectorsRead {
+fn all_good(good: u32) -> Option<Result<SectorsRead, TapeFailed>> {
+    Some(Ok(SectorsRead {
         good: LostSet::from_mask(good),
         blank: LostSet::from_mask(0),
-    })
+    }))
 }
 
 /// Has a host that knows the cartridge wear a sector.
-fn wear(
-    unit: &mut Unit<MemTape>,
-    segment: u32,
-    sector: u32,
-) -> Result<Result<(), HandFault>, HostFault> {
+fn wear(unit: &mut Unit<MemTape>, segment: u32, sector: u32) -> Option<Result<(), HandFault>> {
     let mut host = begun(unit)?;
-    Ok(host.wear(unit, segment, sector))
+    Some(host.wear(unit, segment, sector))
 }
 
 /// The sector still has its bytes, and the head comes to it next.
@@ -70,7 +66,7 @@ fn a_read_that_fails_leaves_the_head_where_it_was(rt: HostRuntime) {
     let answer = read(&mut unit, &mut into);
     let seen = (answer, into, first_wrong(&mut unit, &KEPT));
     put_away(unit);
-    assert_eq!(rt; seen, (Err(HostFault::Tape), [1; 1024], None));
+    assert_eq!(rt; seen, (Some(Err(TapeFailed)), [1; 1024], None));
 }
 
 #[test]
@@ -79,7 +75,7 @@ fn a_write_that_fails_leaves_the_head_where_it_was(rt: HostRuntime) {
     let answer = write(&mut unit, &[9; 1024]);
     let seen = (answer, first_wrong(&mut unit, &KEPT));
     put_away(unit);
-    assert_eq!(rt; seen, (Err(HostFault::Tape), None));
+    assert_eq!(rt; seen, (Some(Err(TapeFailed)), None));
 }
 
 #[test]
@@ -89,7 +85,7 @@ fn a_read_of_several_that_fails_leaves_the_head_where_it_was(rt: HostRuntime) {
     let answer = read_several(&mut unit, 3, &mut into);
     let seen = (answer, into[0], first_wrong(&mut unit, &KEPT));
     put_away(unit);
-    assert_eq!(rt; seen, (Err(HostFault::Tape), [1; 1024], None));
+    assert_eq!(rt; seen, (Some(Err(TapeFailed)), [1; 1024], None));
 }
 
 #[test]
@@ -107,7 +103,7 @@ fn several_sectors_are_read_and_written_in_one_call(rt: HostRuntime) {
     assert_eq!(rt;
         (seen, found, again),
         (
-            (Ok(Ok(())), all_good(5), Ok(LostSet::from_mask(0))),
+            (Some(Ok(())), all_good(5), Some(Ok(LostSet::from_mask(0)))),
             [[WRITTEN; 1024], [1; 1024], [0; 1024], [1; 1024]],
             (all_good(3), [[WRITTEN; 1024], [9; 1024]]),
         )
@@ -133,11 +129,15 @@ fn a_host_wears_the_sectors_of_its_cartridge(rt: HostRuntime) {
         (refused, seen),
         (
             [
-                Ok(Err(HandFault::Tape)),
-                Ok(Err(HandFault::BadPlace)),
-                Ok(Err(HandFault::BadPlace)),
+                Some(Err(HandFault::Tape)),
+                Some(Err(HandFault::BadPlace)),
+                Some(Err(HandFault::BadPlace)),
             ],
-            (Ok(SectorRead::Good), Ok(Ok(())), Ok(SectorRead::Lost)),
+            (
+                Some(Ok(SectorRead::Good)),
+                Some(Ok(())),
+                Some(Ok(SectorRead::Lost)),
+            ),
         )
     );
 }

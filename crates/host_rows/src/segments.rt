@@ -9,7 +9,6 @@ use qic_mem::MemTape;
 use segment_io::{SegFault, Workspace, collect, read_segment, write_sectors, write_segment};
 use std::alloc::Global;
 use std::process::Abort;
-use std::test::Fail;
 
 /// A segment amid a track.
 const SEGMENT: u32 = 40;
@@ -42,33 +41,33 @@ fn mark(tape: &mut MemTape) -> Result<(), TapeFailed> {
     tape.format_segment(SEGMENT)
 }
 
-fn write(unit: &mut Unit<MemTape>, work: &mut Workspace) -> Result<(), SegFault> {
+fn write(unit: &mut Unit<MemTape>, work: &mut Workspace) -> Option<Result<(), TapeFailed>> {
     let mut host = begun(unit)?;
-    write_segment(&mut host, unit, SEGMENT, USABLE, work)
+    Some(write_segment(&mut host, unit, SEGMENT, USABLE, work))
 }
 
-fn write_three(unit: &mut Unit<MemTape>, work: &Workspace) -> Result<(), SegFault> {
+fn write_three(unit: &mut Unit<MemTape>, work: &Workspace) -> Option<Result<(), TapeFailed>> {
     let mut host = begun(unit)?;
     let places = LostSet::from_mask(THREE);
-    write_sectors(&mut host, unit, SEGMENT, USABLE, places, work)
+    Some(write_sectors(&mut host, unit, SEGMENT, USABLE, places, work))
 }
 
 /// The answer of a call, with the mask of the places that can't be read.
-fn mask_of(answer: Result<LostSet, SegFault>) -> Result<u32, SegFault> {
+fn mask_of<E>(answer: Result<LostSet, E>) -> Result<u32, E> {
     match answer {
         Ok(lost) => Ok(lost.mask()),
         Err(fault) => Err(fault),
     }
 }
 
-fn read(unit: &mut Unit<MemTape>, work: &mut Workspace) -> Result<u32, SegFault> {
+fn read(unit: &mut Unit<MemTape>, work: &mut Workspace) -> Option<Result<u32, SegFault>> {
     let mut host = begun(unit)?;
-    mask_of(read_segment(&mut host, unit, SEGMENT, USABLE, work))
+    Some(mask_of(read_segment(&mut host, unit, SEGMENT, USABLE, work)))
 }
 
-fn gather(unit: &mut Unit<MemTape>, work: &mut Workspace) -> Result<u32, SegFault> {
+fn gather(unit: &mut Unit<MemTape>, work: &mut Workspace) -> Option<Result<u32, TapeFailed>> {
     let mut host = begun(unit)?;
-    mask_of(collect(&mut host, unit, SEGMENT, USABLE, work))
+    Some(mask_of(collect(&mut host, unit, SEGMENT, USABLE, work)))
 }
 
 /// Wears a sector of the segment.
@@ -135,10 +134,10 @@ fn a_written_segment_is_read_without_three_sectors(rt: HostRuntime) {
     assert_eq!(rt;
         (written, worn, found, lost),
         (
-            Ok(()),
+            Some(Ok(())),
             [Ok(()); 3],
-            (Ok(0x0801_0001), true),
-            (Ok(()), Err(fault))
+            (Some(Ok(0x0801_0001)), true),
+            (Ok(()), Some(Err(fault)))
         )
     );
 }
@@ -157,7 +156,12 @@ fn a_write_that_fails_leaves_the_segment_as_it_was(rt: HostRuntime) {
     put_both_away(unit, work);
     assert_eq!(rt;
         (failed, left, written, gathered),
-        (Err(SegFault::Tape), (Ok(0), true), Ok(()), (Ok(0), true))
+        (
+            Some(Err(TapeFailed)),
+            (Some(Ok(0)), true),
+            Some(Ok(())),
+            (Some(Ok(0)), true)
+        )
     );
 }
 
@@ -177,7 +181,7 @@ fn a_fault_leaves_the_named_writes_before_it(rt: HostRuntime) {
     put_both_away(unit, work);
     assert_eq!(rt;
         (written, gathered),
-        ([Err(SegFault::Tape); 2], (Ok(0), true, true, true))
+        ([Some(Err(TapeFailed)); 2], (Some(Ok(0)), true, true, true))
     );
 }
 
@@ -186,37 +190,22 @@ fn a_fault_leaves_the_named_writes_before_it(rt: HostRuntime) {
 fn a_read_that_fails_is_told(rt: HostRuntime) {
     let mut unit = marked(&rt, rt.alloc(), &[6, 8, 10]);
     let mut work = Workspace::new(rt.alloc()).expect(&rt, "memory");
-    let told = [
+    let told = (
         gather(&mut unit, &mut work),
-        read(&mut unit, &mut work),
-        read(&mut unit, &mut work),
+        [read(&mut unit, &mut work), read(&mut unit, &mut work)],
         gather(&mut unit, &mut work),
-    ];
+    );
     let seen = (are_zero(&work, 0, 28), read(&mut unit, &mut work));
-    let fault = Err(SegFault::Tape);
     put_both_away(unit, work);
-    assert_eq!(rt; (told, seen), ([fault, fault, fault, Ok(0)], (true, Ok(0))));
-}
-
-#[test]
-fn faults_are_told_in_words(rt: HostRuntime) -> Result<(), Fail> {
-    let table = [
+    assert_eq!(rt;
+        (told, seen),
         (
-            SegFault::Lost {
-                segment: 40,
-                lost: 4,
-            },
-            "segment 40: 4 sectors are lost, and at most three can be found",
-        ),
-        (
-            SegFault::Mismatch { segment: 4199 },
-            "segment 4199: no code block agrees with the sectors that can be read",
-        ),
-        (SegFault::Tape, "the tape failed"),
-    ];
-    for (fault, want) in table {
-        let text = fault.to_string(rt.alloc())?;
-        assert_eq!(rt; text.as_str(), want);
-    }
-    Ok(())
+            (
+                Some(Err(TapeFailed)),
+                [Some(Err(SegFault::Tape)); 2],
+                Some(Ok(0))
+            ),
+            (true, Some(Ok(0)))
+        )
+    );
 }

@@ -23,20 +23,17 @@ use Rattle.command_laws.specs.MadeTerms.{made_entry, made_acts, IsAppendAnswer}
 use Rattle.command_laws.specs.AppendTerms.{entry_for, silently}
 use Rattle.volume_store.specs.Appending.{kept_by, AppendRan, AppendCut, TableRefused, AppendEnds, CutUnread, FaultsUnread}
 use Rattle.volume_store.specs.Mounting.{StoreView, StoreFits}
-use Rattle.made_volumes.specs.declared.fault.MakeFault.{MakeFault}
-use Rattle.made_volumes.specs.Faults.{is_of_step, fault_of}
+use Rattle.segment_io.specs.declared.fault.StoreFault.{StoreFault}
 use Rattle.made_volumes.specs.Runs.{HasRun, RunCut, RunEnds}
 use Rattle.command_laws.proofs.MadeMachineLaws.{run_of, done_of}
 use Rattle.command_laws.proofs.MadeMadeBytes.{length-made_bytes}
 use Rattle.command_laws.proofs.MadeMayLaws.{may_of, may_append}
 use Rattle.command_spec.specs.declared.status.Status.{Status}
-use Rattle.cartridge_front.specs.declared.fault.StoreFault.{StoreFault}
 use Rattle.cartridge_laws.proofs.MountOnce.{not_lost}
 use Rattle.volume_store.proofs.Fitting.{told_mark}
 use Rattle.qic_base.specs.Tape as tapes
 use Rattle.qic_base.specs.TapeCalls as tape_calls
-use Rattle.cartridge_front.specs.declared.fault.StoreFault.TheVariants as store
-use Rattle.made_volumes.specs.declared.fault.MakeFault.TheVariants as fault
+use Rattle.segment_io.specs.declared.fault.StoreFault.TheVariants as fault
 use Rattle.command_spec.specs.declared.status.Status.TheVariants as status
 
 -- ---- the mark
@@ -117,7 +114,7 @@ module _ {T : Type 0} (t : tapes.Meaning T) (seed volume : ℕ) (before : StoreV
   Ends result =
       AppendEnds t made_means (reading a bytes) (reading b rest) before after (made_name volume) 0 promise result
 
-  abbrev Result' : Result (Unit {0}) MakeFault → Type 0
+  abbrev Result' : Result (Unit {0}) StoreFault → Type 0
   Result' r = RunEnds t no_sink seed words entries (AppendMade volume ∷ []) (around a tt) (around b tt) r
 
   abbrev Acts : List Act → Type 0
@@ -242,7 +239,7 @@ module _ {T : Type 0} (t : tapes.Meaning T) (seed volume : ℕ) (before : StoreV
       answer_fits have (made_length seed volume) bytes ends.bytes (has_promised_room have promise) (became_is (Fits ends.bytes) ends.ran) in
       ran_so (Fits ends.bytes) status.Done free ends.ran is is
 
-  locked_so : is_protected u.drive.deck ≡ true → Ends (Err store.Protected) → Result' (Err fault.Protected)
+  locked_so : is_protected u.drive.deck ≡ true → Ends (Err fault.Protected) → Result' (Err fault.Protected)
   locked_so locked ends = subst (λ (end : T). RunEnds t no_sink seed words entries (AppendMade volume ∷ []) (around a tt) (around end tt)
       (Err fault.Protected)) (sym ends.0) (record {
         acts = [];
@@ -254,35 +251,33 @@ module _ {T : Type 0} (t : tapes.Meaning T) (seed volume : ℕ) (before : StoreV
       })
 
   -- the answers of a call that a run makes
-  pub append_so : (f : StoreFault) → (f ≡ store.Protected) ↔ (is_protected u.drive.deck ≡ true) → Ends (Err f) →
-      FaultsUnread t made_means (reading a bytes) (reading b rest) (Err f) → (is_of_step f ≡ true) × Result' (Err (fault_of f))
-  append_so store.Protected mark ends unread = (refl, locked_so (mark.0 refl) ends)
-  append_so (store.Lost segment lost) mark ends unread =
-      let free : is_protected u.drive.deck ≡ false = not_marked (store.Lost segment lost ≡ store.Protected)
-      (is_protected u.drive.deck) mark.1 (λ is. cc) in (
-        refl,
-        refused_so (λ c. TableSays (table_cells c) (ByCode (LostSectors lost))) (status.Lost segment lost) free ends.2 (ends.0, ends.1)
-            (λ c acts none says. (lost, says, none, ap (λ (s : ℕ). status.Lost s lost) ends.0)),
-      )
-  append_so store.TableMismatch mark ends unread =
-      let free : is_protected u.drive.deck ≡ false = not_marked (store.TableMismatch ≡ store.Protected) (is_protected u.drive.deck) mark.1
+  pub append_so : (f : StoreFault) → (f ≡ fault.Protected) ↔ (is_protected u.drive.deck ≡ true) → Ends (Err f) →
+      FaultsUnread t made_means (reading a bytes) (reading b rest) (Err f) → Result' (Err f)
+  append_so fault.Protected mark ends unread = locked_so (mark.0 refl) ends
+  append_so (fault.Lost segment lost) mark ends unread =
+      let free : is_protected u.drive.deck ≡ false = not_marked (fault.Lost segment lost ≡ fault.Protected)
+      (is_protected u.drive.deck) mark.1 (λ is. cc) in
+      refused_so (λ c. TableSays (table_cells c) (ByCode (LostSectors lost))) (status.Lost segment lost) free ends.2 (ends.0, ends.1)
+      (λ c acts none says. (lost, says, none, ap (λ (s : ℕ). status.Lost s lost) ends.0))
+  append_so fault.TableMismatch mark ends unread =
+      let free : is_protected u.drive.deck ≡ false = not_marked (fault.TableMismatch ≡ fault.Protected) (is_protected u.drive.deck) mark.1
       (λ is. cc) in
-      (refl, refused_so (λ c. ⊥) status.TableMismatch free ends tt (λ c acts none never. absurd never))
-  append_so (store.Full need there) mark ends unread =
-      let free : is_protected u.drive.deck ≡ false = not_marked (store.Full need there ≡ store.Protected) (is_protected u.drive.deck) mark.1
+      refused_so (λ c. ⊥) status.TableMismatch free ends tt (λ c acts none never. absurd never)
+  append_so (fault.Full need there) mark ends unread =
+      let free : is_protected u.drive.deck ≡ false = not_marked (fault.Full need there ≡ fault.Protected) (is_protected u.drive.deck) mark.1
       (λ is. cc) in
       let is : made_answer seed words entries volume ≡ status.Full need there =
       answer_long have (made_length seed volume) bytes need there (has_promised_room have promise) (length-made_bytes seed volume)
       (became_is (TooLong need there) ends) in
-      (refl, ran_so (TooLong need there) (status.Full need there) free ends is is)
-  append_so (store.Short asked read) mark ends unread =
+      ran_so (TooLong need there) (status.Full need there) free ends is is
+  append_so (fault.Short asked read) mark ends unread =
       absurd (never_short have (made_length seed volume) bytes asked read (has_promised_room have promise) (length-made_bytes seed volume)
       (became_is (TooShort asked read) ends))
-  append_so store.Source mark ends unread = absurd (let rose = ends.cut.cause in omega arith)
-  append_so store.Tape mark ends unread =
-      let free : is_protected u.drive.deck ≡ false = not_marked (store.Tape ≡ store.Protected) (is_protected u.drive.deck) mark.1
+  append_so fault.Source mark ends unread = absurd (let rose = ends.cut.cause in omega arith)
+  append_so fault.Tape mark ends unread =
+      let free : is_protected u.drive.deck ≡ false = not_marked (fault.Tape ≡ fault.Protected) (is_protected u.drive.deck) mark.1
       (λ is. cc) in
-      (refl, cut_so free ends unread)
+      cut_so free ends unread
   append_so f mark ends unread = absurd ends
 
   pub append_done : (appended : Appended) → is_protected u.drive.deck ≡ false → Ends (Ok appended) → Result' (Ok tt)
@@ -300,9 +295,9 @@ module _ {T : Type 0} (t : tapes.Meaning T) (seed volume : ℕ) (before : StoreV
 
   -- the same of a call with this name, this promise and this source
   pub append_so_at : (name source : List ℕ) (promised : ℕ) → name ≡ made_name volume → source ≡ bytes → promised ≡ made_length seed volume →
-      (f : StoreFault) → (f ≡ store.Protected) ↔ (is_protected u.drive.deck ≡ true) →
+      (f : StoreFault) → (f ≡ fault.Protected) ↔ (is_protected u.drive.deck ≡ true) →
       AppendEnds t made_means (reading a source) (reading b rest) before after name 0 (Some promised) (Err f) →
-      FaultsUnread t made_means (reading a source) (reading b rest) (Err f) → (is_of_step f ≡ true) × Result' (Err (fault_of f))
+      FaultsUnread t made_means (reading a source) (reading b rest) (Err f) → Result' (Err f)
   append_so_at name source promised named from long f mark ends unread =
       append_so f mark
       (subst (λ (n : ℕ). AppendEnds t made_means (reading a bytes) (reading b rest) before after (made_name volume) 0 (Some n) (Err f)) long

@@ -11,7 +11,7 @@ use Rattle.cartridge_spec.specs.Shape.{mask_at, usable_count}
 use Rattle.cartridge_spec.specs.Table.{Entry}
 use Rattle.cartridge_spec.specs.Volumes.{carrying, carrying_segments}
 use Rattle.cartridge_laws.proofs.Places.{none_below, front_of_places, front_of_all}
-use Rattle.made_volumes.specs.declared.fault.MakeFault.{MakeFault}
+use Rattle.segment_io.specs.declared.fault.StoreFault.{StoreFault}
 use Rattle.command_spec.specs.Make.{MakeStep, AppendMade, WearSector, ScrubAll, SumVolume, appending, wearing_in, wearing_volumes, summing}
 use Rattle.command_spec.specs.Make.{made_list, making}
 use Rattle.command_laws.specs.MadeTerms.{made_entry, first_two, wearing}
@@ -34,7 +34,7 @@ none_takes_both a b c xs ys one other = ap (λ (text : List ℕ). text ++ ys) on
 
 module _ {T : Type 0} (t : tapes.Meaning T) (seed : ℕ) (words : List ℕ) (es : List Entry) (v : ℕ) (some : 1 ≤ v) (now : List ℕ)
     (list : List Entry) (same : now ≡ words) (is : list ≡ made_list seed (v - 1) words es) (a b c : T) where
-  pub append_next : (r : Result (Unit {0}) MakeFault) → HasRun t no_sink seed words es (appending 1 (v - 1)) (around a tt)
+  pub append_next : (r : Result (Unit {0}) StoreFault) → HasRun t no_sink seed words es (appending 1 (v - 1)) (around a tt)
       (around b tt) status.Done →
       RunEnds t no_sink seed now list (AppendMade v ∷ []) (around b tt) (around c tt) r →
       RunEnds t no_sink seed words es (appending 1 (v + 1 - 1)) (around a tt) (around c tt) r
@@ -52,7 +52,7 @@ module _ {T : Type 0} (t : tapes.Meaning T) (seed : ℕ) (words : List ℕ) (es 
       (ends_behind t no_sink seed words none_takes_both es (appending 1 (v - 1)) (AppendMade (1 + (v - 1)) ∷ []) (around a tt) (around b tt)
       (around c tt) r ran here)
 
-  pub append_failed : (count : ℕ) → v ≤ count → (f : MakeFault) → HasRun t no_sink seed words es (appending 1 (v - 1)) (around a tt)
+  pub append_failed : (count : ℕ) → v ≤ count → (f : StoreFault) → HasRun t no_sink seed words es (appending 1 (v - 1)) (around a tt)
       (around b tt) status.Done →
       RunEnds t no_sink seed now list (AppendMade v ∷ []) (around b tt) (around c tt) (Err f) →
       RunEnds t no_sink seed words es (appending 1 count) (around a tt) (around c tt) (Err f)
@@ -93,7 +93,7 @@ module _ {T : Type 0} (t : tapes.Meaning T) (words : List ℕ) (es : List Entry)
   abbrev mask : ℕ
   mask = mask_at words segment
 
-  pub wear_next : (seed sector : ℕ) (r : Result (Unit {0}) MakeFault) → IsLost mask sector → length (two_below mask sector) < 2 →
+  pub wear_next : (seed sector : ℕ) (r : Result (Unit {0}) StoreFault) → IsLost mask sector → length (two_below mask sector) < 2 →
       HasRun t no_sink seed words es (wearing segment (two_below mask sector)) (around a tt) (around b tt) status.Done →
       RunEnds t no_sink seed words es (WearSector segment sector ∷ []) (around b tt) (around c tt) r →
       RunEnds t no_sink seed words es (wearing segment (two_below mask (sector + 1))) (around a tt) (around c tt) r
@@ -104,7 +104,7 @@ module _ {T : Type 0} (t : tapes.Meaning T) (words : List ℕ) (es : List Entry)
       (around a tt) (around b tt) (around c tt) r
       (after_wearing seed words es segment (two_below mask sector)) ran ends)
 
-  pub wear_failed : (seed sector : ℕ) (f : MakeFault) → sector < 32 → IsLost mask sector → length (two_below mask sector) < 2 →
+  pub wear_failed : (seed sector : ℕ) (f : StoreFault) → sector < 32 → IsLost mask sector → length (two_below mask sector) < 2 →
       HasRun t no_sink seed words es (wearing segment (two_below mask sector)) (around a tt) (around b tt) status.Done →
       RunEnds t no_sink seed words es (WearSector segment sector ∷ []) (around b tt) (around c tt) (Err f) →
       RunEnds t no_sink seed words es (wearing segment (first_two words segment)) (around a tt) (around c tt) (Err f)
@@ -164,7 +164,7 @@ module _ {T : Type 0} (t : tapes.Meaning T) (words : List ℕ) (es : List Entry)
       (sym (below_none words start))
       (run_none t no_sink seed words es (around a tt) (λ x. refl))
 
-  pub segments_next : (seed : ℕ) (r : Result (Unit {0}) MakeFault) →
+  pub segments_next : (seed : ℕ) (r : Result (Unit {0}) StoreFault) →
       HasRun t no_sink seed words es (wearing_in words (carrying_below words start segment)) (around a tt) (around b tt) status.Done →
       RunEnds t no_sink seed words es (wearing_in words (carrying words segment segment)) (around b tt) (around c tt) r →
       RunEnds t no_sink seed words es (wearing_in words (carrying_below words start (segment + 1))) (around a tt) (around c tt) r
@@ -176,7 +176,7 @@ module _ {T : Type 0} (t : tapes.Meaning T) (words : List ℕ) (es : List Entry)
       (wearing_in words (carrying words segment segment))
       (around a tt) (around b tt) (around c tt) r (after_wearing_in seed words es (carrying_below words start segment)) ran ends)
 
-  pub segments_failed : (seed last : ℕ) (f : MakeFault) → segment < last →
+  pub segments_failed : (seed last : ℕ) (f : StoreFault) → segment < last →
       HasRun t no_sink seed words es (wearing_in words (carrying_below words start segment)) (around a tt) (around b tt) status.Done →
       RunEnds t no_sink seed words es (wearing_in words (carrying words segment segment)) (around b tt) (around c tt) (Err f) →
       RunEnds t no_sink seed words es (wearing_in words (carrying_below words start last)) (around a tt) (around c tt) (Err f)
@@ -195,7 +195,7 @@ module _ {T : Type 0} (t : tapes.Meaning T) (words : List ℕ) (es : List Entry)
   abbrev rest : List Entry
   rest = drop first es
 
-  pub volumes_go_on : (seed : ℕ) (r : Result (Unit {0}) MakeFault) →
+  pub volumes_go_on : (seed : ℕ) (r : Result (Unit {0}) StoreFault) →
       HasRun t no_sink seed words es (wearing_volumes words (take (index - first) rest)) (around a tt) (around b tt) status.Done →
       RunEnds t no_sink seed words es (wearing_in words (carrying_segments words e)) (around b tt) (around c tt) r →
       RunEnds t no_sink seed words es (wearing_volumes words (take (index + 1 - first) rest)) (around a tt) (around c tt) r
@@ -209,7 +209,7 @@ module _ {T : Type 0} (t : tapes.Meaning T) (words : List ℕ) (es : List Entry)
       (wearing_in words (carrying_segments words e))
       (around a tt) (around b tt) (around c tt) r (after_wearing_volumes seed words es (take (index - first) rest)) ran ends)
 
-  pub volumes_failed : (seed : ℕ) (f : MakeFault) →
+  pub volumes_failed : (seed : ℕ) (f : StoreFault) →
       HasRun t no_sink seed words es (wearing_volumes words (take (index - first) rest)) (around a tt) (around b tt) status.Done →
       RunEnds t no_sink seed words es (wearing_in words (carrying_segments words e)) (around b tt) (around c tt) (Err f) →
       RunEnds t no_sink seed words es (wearing_volumes words rest) (around a tt) (around c tt) (Err f)
@@ -224,7 +224,7 @@ module _ {T : Type 0} (t : tapes.Meaning T) (words : List ℕ) (es : List Entry)
 
 module _ {T K : Type 0} (t : tapes.Meaning T) (k : sinks.Meaning K) (both : TakesBoth k) (words : List ℕ) (es : List Entry)
     (first number : ℕ) (low : first + 1 ≤ number) (a b c : Outside T (Unit {0}) K) where
-  pub sums_next : (seed : ℕ) (r : Result (Unit {0}) MakeFault) →
+  pub sums_next : (seed : ℕ) (r : Result (Unit {0}) StoreFault) →
       HasRun t k seed words es (summing (first + 1) (number - (first + 1))) a b status.Done →
       RunEnds t k seed words es (SumVolume number ∷ []) b c r →
       RunEnds t k seed words es (summing (first + 1) (number + 1 - (first + 1))) a c r
@@ -238,7 +238,7 @@ module _ {T K : Type 0} (t : tapes.Meaning T) (k : sinks.Meaning K) (both : Take
       (after_summing seed words es (first + 1) (number - (first + 1))) ran
       (subst (λ (n : ℕ). RunEnds t k seed words es (SumVolume n ∷ []) b c r) here ends))
 
-  pub sums_failed : (seed count : ℕ) (f : MakeFault) → number < first + 1 + count →
+  pub sums_failed : (seed count : ℕ) (f : StoreFault) → number < first + 1 + count →
       HasRun t k seed words es (summing (first + 1) (number - (first + 1))) a b status.Done →
       RunEnds t k seed words es (SumVolume number ∷ []) b c (Err f) → RunEnds t k seed words es (summing (first + 1) count) a c (Err f)
   sums_failed seed count f high ran ends =
@@ -262,14 +262,14 @@ module _ {T K : Type 0} (t : tapes.Meaning T) (k : sinks.Meaning K) (both : Take
   behind = wears ++ ScrubAll ∷ sums
 
   -- the appends failed
-  pub make_unappended : (f : MakeFault) → RunEnds t no_sink seed words es (appending 1 count) (around a tt) (around b tt) (Err f) →
+  pub make_unappended : (f : StoreFault) → RunEnds t no_sink seed words es (appending 1 count) (around a tt) (around b tt) (Err f) →
       RunEnds t k seed words es (making seed count words es) (around a x) (around b x) (Err f)
   make_unappended f ends =
       ends_longer t k seed words es (appending 1 count) behind (around a x) (around b x) f
       (ends_quietly t k seed words es (appending 1 count) a b x (none x) (Err f) ends)
 
   -- they were carried out, and what comes behind ended so
-  pub make_appended : (c : Outside T (Unit {0}) K) (r : Result (Unit {0}) MakeFault) → HasRun t no_sink seed words es (appending 1 count)
+  pub make_appended : (c : Outside T (Unit {0}) K) (r : Result (Unit {0}) StoreFault) → HasRun t no_sink seed words es (appending 1 count)
       (around a tt) (around b tt) status.Done →
       RunEnds t k seed words made behind (around b x) c r → RunEnds t k seed words es (making seed count words es) (around a x) c r
   make_appended c r ran ends =
@@ -278,7 +278,7 @@ module _ {T K : Type 0} (t : tapes.Meaning T) (k : sinks.Meaning K) (both : Take
       (subst (λ (l : List Entry). RunEnds t k seed words l behind (around b x) c r) is ends)
 
   -- the wears failed
-  pub make_unworn : (c : T) (f : MakeFault) → RunEnds t no_sink seed words made (wearing_volumes words (drop (length es) made))
+  pub make_unworn : (c : T) (f : StoreFault) → RunEnds t no_sink seed words made (wearing_volumes words (drop (length es) made))
       (around b tt) (around c tt) (Err f) →
       RunEnds t k seed words made behind (around b x) (around c x) (Err f)
   make_unworn c f ends =
@@ -287,7 +287,7 @@ module _ {T K : Type 0} (t : tapes.Meaning T) (k : sinks.Meaning K) (both : Take
       (subst (λ (l : List Entry). RunEnds t no_sink seed words made (wearing_volumes words (drop (length es) l)) (around b tt) (around c tt)
       (Err f)) is ends))
 
-  pub make_worn : (c : T) (d : Outside T (Unit {0}) K) (r : Result (Unit {0}) MakeFault) →
+  pub make_worn : (c : T) (d : Outside T (Unit {0}) K) (r : Result (Unit {0}) StoreFault) →
       HasRun t no_sink seed words made (wearing_volumes words (drop (length es) made)) (around b tt) (around c tt) status.Done →
       RunEnds t k seed words made (ScrubAll ∷ sums) (around c x) d r → RunEnds t k seed words made behind (around b x) d r
   make_worn c d r ran ends =
@@ -298,11 +298,11 @@ module _ {T K : Type 0} (t : tapes.Meaning T) (k : sinks.Meaning K) (both : Take
       (around c tt) status.Done) is ran)) ends
 
   -- the scrub failed
-  pub make_unscrubbed : (c d : Outside T (Unit {0}) K) (f : MakeFault) → RunEnds t k seed words made (ScrubAll ∷ []) c d (Err f) →
+  pub make_unscrubbed : (c d : Outside T (Unit {0}) K) (f : StoreFault) → RunEnds t k seed words made (ScrubAll ∷ []) c d (Err f) →
       RunEnds t k seed words made (ScrubAll ∷ sums) c d (Err f)
   make_unscrubbed c d f ends = ends_longer t k seed words made (ScrubAll ∷ []) sums c d f ends
 
-  pub make_scrubbed : (c d e : Outside T (Unit {0}) K) (r : Result (Unit {0}) MakeFault) →
+  pub make_scrubbed : (c d e : Outside T (Unit {0}) K) (r : Result (Unit {0}) StoreFault) →
       HasRun t k seed words made (ScrubAll ∷ []) c d status.Done →
       RunEnds t k seed words made (summing (length es + 1) (length made - length es)) d e r →
       RunEnds t k seed words made (ScrubAll ∷ sums) c e r
@@ -343,7 +343,7 @@ sums_begun t k none words es number a seed =
 
 -- steps of a store with the same map and list
 pub same_store : {T K : Type 0} (t : tapes.Meaning T) (k : sinks.Meaning K) (seed : ℕ) (words now : List ℕ) (es list : List Entry)
-    (items : List MakeStep) (a b : Outside T (Unit {0}) K) (r : Result (Unit {0}) MakeFault) →
+    (items : List MakeStep) (a b : Outside T (Unit {0}) K) (r : Result (Unit {0}) StoreFault) →
     now ≡ words → list ≡ es → RunEnds t k seed now list items a b r → RunEnds t k seed words es items a b r
 same_store t k seed words now es list items a b r same is ends =
     subst (λ (l : List Entry). RunEnds t k seed words l items a b r) is
@@ -351,7 +351,7 @@ same_store t k seed words now es list items a b r same is ends =
 
 -- the wears and the sums of a store that holds the made volumes, with as many volumes before them
 module _ {T K : Type 0} (t : tapes.Meaning T) (k : sinks.Meaning K) (seed : ℕ) (words now : List ℕ) (es made list : List Entry) (first : ℕ)
-    (a b : Outside T (Unit {0}) K) (r : Result (Unit {0}) MakeFault) where
+    (a b : Outside T (Unit {0}) K) (r : Result (Unit {0}) StoreFault) where
   pub wears_of_made : now ≡ words → first ≡ length es → RunEnds t k seed now made (wearing_volumes now (drop first made)) a b r →
       RunEnds t k seed words made (wearing_volumes words (drop (length es) made)) a b r
   wears_of_made same is ends =

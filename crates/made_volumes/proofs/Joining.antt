@@ -10,7 +10,7 @@ use Rattle.cartridge_spec.specs.Table.{Entry}
 use Rattle.cartridge_spec.specs.Settling.{changed_by}
 use Rattle.segment_io.proofs.Going.{tells_always}
 use Rattle.command_laws.proofs.MadeTelling.{tells_before}
-use Rattle.made_volumes.specs.declared.fault.MakeFault.{MakeFault}
+use Rattle.segment_io.specs.declared.fault.StoreFault.{StoreFault}
 use Rattle.command_spec.specs.Make.{MakeStep, Runs, MayRun}
 use Rattle.made_volumes.specs.Runs.{HasRun, RunCut, RunEnds}
 use Rattle.command_laws.proofs.MadeMachineLaws.{runs_both, runs_longer, runs_behind, runs_front}
@@ -19,7 +19,7 @@ use Rattle.command_spec.specs.declared.status.Status.{Status}
 use Rattle.command_laws.specs.MadeTerms.{after_items}
 use Rattle.qic_base.specs.Sink as sinks
 use Rattle.qic_base.specs.Tape as tapes
-use Rattle.made_volumes.specs.declared.fault.MakeFault.TheVariants as fault
+use Rattle.segment_io.specs.declared.fault.StoreFault.TheVariants as fault
 use Rattle.command_spec.specs.declared.status.Status.TheVariants as status
 
 module _ {T K : Type 0} (t : tapes.Meaning T) (k : sinks.Meaning K) (seed : ℕ) (words : List ℕ) where
@@ -97,7 +97,7 @@ module _ {T K : Type 0} (t : tapes.Meaning T) (k : sinks.Meaning K) (seed : ℕ)
 
   -- steps behind others that were carried out
   pub ends_behind : TakesBoth k → (es : List Entry) (xs ys : List MakeStep) (a b c : Outside T (Unit {0}) K)
-      (r : Result (Unit {0}) MakeFault) →
+      (r : Result (Unit {0}) StoreFault) →
       HasRun t k seed words es xs a b status.Done → RunEnds t k seed words (after_items seed words es xs) ys b c r →
       RunEnds t k seed words es (xs ++ ys) a c r
   ends_behind both es xs ys a b c (Ok done) first next = run_both both es xs ys a b c status.Done first next
@@ -110,9 +110,10 @@ module _ {T K : Type 0} (t : tapes.Meaning T) (k : sinks.Meaning K) (seed : ℕ)
       (status.Mismatch segment) first next
   ends_behind both es xs ys a b c (Err fault.Sink) first next = cut_behind both es xs ys a b c SinkFails first next
   ends_behind both es xs ys a b c (Err fault.Tape) first next = cut_behind both es xs ys a b c TapeFails first next
+  ends_behind both es xs ys a b c (Err f) first next = absurd next
 
   -- steps that were refused or cut off, whatever would have come behind them
-  pub ends_longer : (es : List Entry) (xs ys : List MakeStep) (a b : Outside T (Unit {0}) K) (f : MakeFault) →
+  pub ends_longer : (es : List Entry) (xs ys : List MakeStep) (a b : Outside T (Unit {0}) K) (f : StoreFault) →
       RunEnds t k seed words es xs a b (Err f) → RunEnds t k seed words es (xs ++ ys) a b (Err f)
   ends_longer es xs ys a b fault.Protected run = run_longer es xs ys a b status.Protected (λ is. cc) run
   ends_longer es xs ys a b fault.TableMismatch run = run_longer es xs ys a b status.TableMismatch (λ is. cc) run
@@ -121,6 +122,7 @@ module _ {T K : Type 0} (t : tapes.Meaning T) (k : sinks.Meaning K) (seed : ℕ)
   ends_longer es xs ys a b (fault.Mismatch segment) run = run_longer es xs ys a b (status.Mismatch segment) (λ is. cc) run
   ends_longer es xs ys a b fault.Sink cut = cut_longer es xs ys a b SinkFails cut
   ends_longer es xs ys a b fault.Tape cut = cut_longer es xs ys a b TapeFails cut
+  ends_longer es xs ys a b f run = absurd run
 
 -- ---- steps that print nothing
 
@@ -178,7 +180,7 @@ module _ {T K : Type 0} (t : tapes.Meaning T) (k : sinks.Meaning K) (seed : ℕ)
   }
 
   -- they ended so with a sink that they were not handed, too
-  pub ends_quietly : (r : Result (Unit {0}) MakeFault) → RunEnds t no_sink seed words es items (around a tt) (around b tt) r →
+  pub ends_quietly : (r : Result (Unit {0}) StoreFault) → RunEnds t no_sink seed words es items (around a tt) (around b tt) r →
       RunEnds t k seed words es items (around a x) (around b x) r
   ends_quietly (Ok done) run = run_quietly status.Done run
   ends_quietly (Err fault.Protected) run = run_quietly status.Protected run
@@ -188,3 +190,4 @@ module _ {T K : Type 0} (t : tapes.Meaning T) (k : sinks.Meaning K) (seed : ℕ)
   ends_quietly (Err (fault.Mismatch segment)) run = run_quietly (status.Mismatch segment) run
   ends_quietly (Err fault.Sink) cut = broke_quietly SinkFails cut
   ends_quietly (Err fault.Tape) cut = broke_quietly TapeFails cut
+  ends_quietly (Err f) run = absurd run

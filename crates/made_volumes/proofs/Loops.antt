@@ -10,7 +10,7 @@ use Rattle.command_spec.specs.Make.{MakeStep, AppendMade, appending, made_list, 
 use Rattle.command_laws.specs.MadeTerms.{made_entry, first_two, after_items, wearing}
 use Rattle.made_volumes.proofs.Joining.{ends_behind}
 use Rattle.made_volumes.specs.Runs.{HasRun, RunEnds}
-use Rattle.made_volumes.specs.declared.fault.MakeFault.{MakeFault}
+use Rattle.segment_io.specs.declared.fault.StoreFault.{StoreFault}
 use Rattle.qic_base.proofs.LostSetLaws.{lost_places-lost, lost_places-kept}
 use Rattle.qic_base.proofs.Writing.{TakesBoth}
 use Rattle.qic_base.specs.Acts.{Outside}
@@ -53,7 +53,7 @@ after_summing seed words es number (suc count) = after_summing seed words es (nu
 
 -- behind these, steps go on with the same list
 module _ {T K : Type 0} (t : tapes.Meaning T) (k : sinks.Meaning K) (seed : ℕ) (words : List ℕ) (es : List Entry) where
-  pub ends_after : TakesBoth k → (xs ys : List MakeStep) (a b c : Outside T (Unit {0}) K) (r : Result (Unit {0}) MakeFault) →
+  pub ends_after : TakesBoth k → (xs ys : List MakeStep) (a b c : Outside T (Unit {0}) K) (r : Result (Unit {0}) StoreFault) →
       after_items seed words es xs ≡ es →
       HasRun t k seed words es xs a b status.Done → RunEnds t k seed words es ys b c r → RunEnds t k seed words es (xs ++ ys) a c r
   ends_after both xs ys a b c r kept first next =

@@ -14,7 +14,6 @@ use Rattle.segment_mending.specs.Mending.{reported, ScrubCut}
 use Rattle.segment_mending.specs.declared.report.ScrubReport.{ScrubReport}
 use Rattle.volume_store.specs.Mounting.{StoreView, StoreFits}
 use Rattle.volume_store.specs.Scrubbing.{MendEnds}
-use Rattle.made_volumes.specs.Faults.{is_of_step, fault_of}
 use Rattle.command_spec.specs.Make.{WearSector, ScrubAll, Runs}
 use Rattle.made_volumes.specs.Runs.{RunEnds, NeverFull}
 use Rattle.command_laws.proofs.MadeMachineLaws.{run_of, done_of}
@@ -22,13 +21,12 @@ use Rattle.command_laws.proofs.MadeMayLaws.{may_of}
 use Rattle.made_volumes.proofs.Appends.{not_marked}
 use Rattle.command_spec.specs.declared.status.Status.{Status}
 use Rattle.command_spec.specs.declared.depth.Depth.TheVariants.{Shallow}
-use Rattle.cartridge_front.specs.declared.fault.StoreFault.{StoreFault}
+use Rattle.segment_io.specs.declared.fault.StoreFault.{StoreFault}
 use Rattle.volume_store.proofs.Fitting.{told_mark}
 use Rattle.qic_base.specs.Sink as sinks
 use Rattle.qic_base.specs.Tape as tapes
 use Rattle.qic_base.specs.TapeCalls as tape_calls
-use Rattle.cartridge_front.specs.declared.fault.StoreFault.TheVariants as store
-use Rattle.made_volumes.specs.declared.fault.MakeFault.TheVariants as fault
+use Rattle.segment_io.specs.declared.fault.StoreFault.TheVariants as fault
 use Rattle.command_spec.specs.declared.status.Status.TheVariants as status
 
 -- ---- a worn sector
@@ -116,9 +114,9 @@ module _ {T K : Type 0} (t : tapes.Meaning T) (k : sinks.Meaning K) (seed : ℕ)
         | inr done ↦ known acts done.1.0
       ]) (told_mark t before u fits false free) cut.told
 
-  pub scrub_so : ((z : K) → k.took z [] z) → (f : StoreFault) → (f ≡ store.Protected) ↔ (is_protected u.drive.deck ≡ true) → Ends (Err f) →
-      (is_of_step f ≡ true) × RunEnds t k seed words entries (ScrubAll ∷ []) (around a x) (around b y) (Err (fault_of f))
-  scrub_so none store.Protected mark ends = (refl, untouched ends.0 ends.1)
+  pub scrub_so : ((z : K) → k.took z [] z) → (f : StoreFault) → (f ≡ fault.Protected) ↔ (is_protected u.drive.deck ≡ true) → Ends (Err f) →
+      RunEnds t k seed words entries (ScrubAll ∷ []) (around a x) (around b y) (Err f)
+  scrub_so none fault.Protected mark ends = untouched ends.0 ends.1
     where
       untouched : b ≡ a → y ≡ x → RunEnds t k seed words entries (ScrubAll ∷ []) (around a x) (around b y) (Err fault.Protected)
       untouched tape sink =
@@ -132,26 +130,16 @@ module _ {T K : Type 0} (t : tapes.Meaning T) (k : sinks.Meaning K) (seed : ℕ)
                 (told_mark t before u fits true (mark.0 refl));
             may = may_of seed words entries ScrubAll [] status.Protected refl;
           }))
-  scrub_so none store.Sink mark ends =
-      let free : is_protected u.drive.deck ≡ false = not_marked (store.Sink ≡ store.Protected) (is_protected u.drive.deck) mark.1
+  scrub_so none fault.Sink mark ends =
+      let free : is_protected u.drive.deck ≡ false = not_marked (fault.Sink ≡ fault.Protected) (is_protected u.drive.deck) mark.1
       (λ is. cc) in
-      (refl, record { told = scrub_cut SinkFails free ends; acts = ends.acts; cut = ends.cut })
-  scrub_so none store.Tape mark ends =
-      let free : is_protected u.drive.deck ≡ false = not_marked (store.Tape ≡ store.Protected) (is_protected u.drive.deck) mark.1
+      record { told = scrub_cut SinkFails free ends; acts = ends.acts; cut = ends.cut }
+  scrub_so none fault.Tape mark ends =
+      let free : is_protected u.drive.deck ≡ false = not_marked (fault.Tape ≡ fault.Protected) (is_protected u.drive.deck) mark.1
       (λ is. cc) in
-      (refl, record { told = scrub_cut TapeFails free ends; acts = ends.acts; cut = ends.cut })
+      record { told = scrub_cut TapeFails free ends; acts = ends.acts; cut = ends.cut }
   scrub_so none f mark ends = absurd ends
 
-  pub scrub_never_full : (f : StoreFault) → Ends (Err f) → NeverFull (Err (fault_of f))
-  scrub_never_full (store.Full need have) ends = absurd ends
-  scrub_never_full store.NotFormatted ends = tt
-  scrub_never_full (store.Foreign field value) ends = tt
-  scrub_never_full store.TableMismatch ends = tt
-  scrub_never_full (store.NoVolume number count) ends = tt
-  scrub_never_full (store.Lost segment lost) ends = tt
-  scrub_never_full (store.Mismatch segment) ends = tt
-  scrub_never_full store.Protected ends = tt
-  scrub_never_full (store.Short promised read) ends = tt
-  scrub_never_full store.Source ends = tt
-  scrub_never_full store.Sink ends = tt
-  scrub_never_full store.Tape ends = tt
+  pub scrub_never_full : (f : StoreFault) → Ends (Err f) → NeverFull (Err f)
+  scrub_never_full (fault.Full need have) ends = absurd ends
+  scrub_never_full f ends = tt

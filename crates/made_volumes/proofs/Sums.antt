@@ -1,5 +1,5 @@
 -- How the restoring and summing of a volume ended, as a step of a run.
-use Rattle.std.proofs.Common.{◌≡◌, ℕ, zero, suc, ◌+◌, ◌%◌, ◌^◌, ◌<◌, ◌≤◌, true, false, List, [], ◌∷◌, ◌++◌, length, sum, Some, None}
+use Rattle.std.proofs.Common.{◌≡◌, ℕ, zero, suc, ◌+◌, ◌%◌, ◌^◌, ◌<◌, ◌≤◌, false, List, [], ◌∷◌, ◌++◌, length, sum, Some, None}
 use Rattle.std.proofs.Common.{slice_get, Result, Ok, Err, refl, sym, ap, ◌∙◌, subst, arith, append-nil}
 use Rattle.qic_base.specs.Cartridge.{Cartridge}
 use Rattle.qic_base.specs.Step.{Step, effects, Torn}
@@ -17,21 +17,24 @@ use Rattle.command_laws.specs.OutputText.{AreOf}
 use Rattle.volume_output.specs.Output.{GaveVolume, VolumeCut}
 use Rattle.volume_store.specs.Mounting.{StoreView}
 use Rattle.volume_store.specs.Restoring.{RestoreEnds}
-use Rattle.made_volumes.specs.Faults.{is_of_step, fault_of, printed}
 use Rattle.command_spec.specs.Make.{SumVolume, StepDoes, Runs, sum_line, sum_acts, MaySum}
 use Rattle.command_laws.specs.MadeTerms.{IsSummed}
 use Rattle.made_volumes.specs.Runs.{HasRun, RunEnds, NeverFull}
 use Rattle.command_laws.proofs.MadeMachineLaws.{run_of, done_of, does_one}
 use Rattle.command_laws.proofs.MadeMayLaws.{may_of}
 use Rattle.command_spec.specs.declared.status.Status.{Status}
-use Rattle.cartridge_front.specs.declared.fault.StoreFault.{StoreFault}
+use Rattle.segment_io.specs.declared.fault.StoreFault.{StoreFault}
 use Rattle.qic_base.specs.Sink as sinks
 use Rattle.qic_base.specs.SinkCalls as sink_calls
 use Rattle.qic_base.specs.Tape as tapes
 use Rattle.qic_base.specs.TapeCalls as tape_calls
-use Rattle.cartridge_front.specs.declared.fault.StoreFault.TheVariants as store
-use Rattle.made_volumes.specs.declared.fault.MakeFault.TheVariants as fault
+use Rattle.segment_io.specs.declared.fault.StoreFault.TheVariants as fault
 use Rattle.command_spec.specs.declared.status.Status.TheVariants as status
+
+-- what a line that was written, or not, answers
+abbrev printed : {E : Type 0} → Result (Unit {0}) E → Result (Unit {0}) StoreFault
+printed (Ok done) = Ok tt
+printed (Err failed) = Err fault.Sink
 
 -- ---- no step
 
@@ -251,38 +254,27 @@ module _ {T K : Type 0} (t : tapes.Meaning T) (k : sinks.Meaning K) (seed : ℕ)
   -- the refusals and the fault of the call that restores
   pub restore_so : 1 ≤ number → number ≤ length entries → (f : StoreFault) → RestoreEnds t sum_means before number false (around a 0)
       (around b total) (Err f) →
-      (is_of_step f ≡ true) × RunEnds t k seed words entries (SumVolume number ∷ []) (around a x) (around b x) (Err (fault_of f))
-  restore_so some within (store.NoVolume asked count) ends = absurd (there_is entries number some within ends.none)
-  restore_so some within (store.Lost segment lost) ends =
-      (refl, refused_went ends.0 (LostIn segment lost) ends.2 ends.1 refl (refl, (length ends.2.acts, ends.2.ends)))
-  restore_so some within (store.Mismatch segment) ends =
-      (refl, refused_went ends.0 (MismatchIn segment) ends.2 ends.1 refl (refl, (length ends.2.acts, ends.2.ends)))
-  restore_so some within store.Sink ends = absurd (let rose = ends.2.cut.broke.cause in omega arith)
-  restore_so some within store.Tape ends = (refl, tape_cut ends.0 ends.1 ends.2)
+      RunEnds t k seed words entries (SumVolume number ∷ []) (around a x) (around b x) (Err f)
+  restore_so some within (fault.NoVolume asked count) ends = absurd (there_is entries number some within ends.none)
+  restore_so some within (fault.Lost segment lost) ends =
+      refused_went ends.0 (LostIn segment lost) ends.2 ends.1 refl (refl, (length ends.2.acts, ends.2.ends))
+  restore_so some within (fault.Mismatch segment) ends =
+      refused_went ends.0 (MismatchIn segment) ends.2 ends.1 refl (refl, (length ends.2.acts, ends.2.ends))
+  restore_so some within fault.Sink ends = absurd (let rose = ends.2.cut.broke.cause in omega arith)
+  restore_so some within fault.Tape ends = tape_cut ends.0 ends.1 ends.2
   restore_so some within f ends = absurd ends
 
   pub restore_never_full : (f : StoreFault) → RestoreEnds t sum_means before number false (around a 0) (around b total) (Err f) →
-      NeverFull (Err (fault_of f))
-  restore_never_full (store.Full need have) ends = absurd ends
-  restore_never_full store.NotFormatted ends = tt
-  restore_never_full (store.Foreign field value) ends = tt
-  restore_never_full store.TableMismatch ends = tt
-  restore_never_full (store.NoVolume asked count) ends = tt
-  restore_never_full (store.Lost segment lost) ends = tt
-  restore_never_full (store.Mismatch segment) ends = tt
-  restore_never_full store.Protected ends = tt
-  restore_never_full (store.Short promised read) ends = tt
-  restore_never_full store.Source ends = tt
-  restore_never_full store.Sink ends = tt
-  restore_never_full store.Tape ends = tt
+      NeverFull (Err f)
+  restore_never_full (fault.Full need have) ends = absurd ends
+  restore_never_full f ends = tt
 
   -- the same of a call with a sink that has summed nothing
   pub restore_so_at : (start : ℕ) → start ≡ 0 → 1 ≤ number → number ≤ length entries → (f : StoreFault) →
       RestoreEnds t sum_means before number false (around a start) (around b total) (Err f) →
-      (is_of_step f ≡ true) × RunEnds t k seed words entries (SumVolume number ∷ []) (around a x) (around b x) (Err (fault_of f))
-      × NeverFull (Err (fault_of f))
+      RunEnds t k seed words entries (SumVolume number ∷ []) (around a x) (around b x) (Err f)
+      × NeverFull (Err f)
   restore_so_at start none_yet some within f ends =
       let here : RestoreEnds t sum_means before number false (around a 0) (around b total) (Err f) =
       subst (λ (n : ℕ). RestoreEnds t sum_means before number false (around a n) (around b total) (Err f)) none_yet ends in
-      let so = restore_so some within f here in
-      (so.0, so.1, restore_never_full f here)
+      (restore_so some within f here, restore_never_full f here)

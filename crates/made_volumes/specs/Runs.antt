@@ -7,8 +7,8 @@ use Rattle.qic_base.specs.Acts.{Act, text_of, Outside, Failing, TapeFails, SinkF
 use Rattle.qic_base.specs.Alone.{no_source}
 use Rattle.cartridge_spec.specs.Table.{Entry}
 use Rattle.volume_store.specs.Mounting.{StoreView}
-use Rattle.made_volumes.specs.declared.fault.MakeFault.{MakeFault}
-use Rattle.made_volumes.specs.declared.fault.MakeFault.TheVariants as fault
+use Rattle.segment_io.specs.declared.fault.StoreFault.{StoreFault}
+use Rattle.segment_io.specs.declared.fault.StoreFault.TheVariants as fault
 use Rattle.command_spec.specs.Make.{MakeStep, made_list, making, Runs, made_answer, MayRun}
 use Rattle.command_spec.specs.declared.status.Status.{Status}
 use Rattle.command_spec.specs.declared.status.Status.TheVariants as status
@@ -31,9 +31,10 @@ pub record RunCut {T K : Type 0} (t : tapes.Meaning T) (k : sinks.Meaning K) (se
   pub acts : List Act
   pub cut : Cut t no_source k old new acts failing
 
--- how some steps ended
+-- How some steps ended. No other fault comes of them: the cartridge is mounted, the volumes that they ask for are there, and a made
+-- source has its bytes and never fails.
 abbrev pub RunEnds : {T K : Type 0} (t : tapes.Meaning T) (k : sinks.Meaning K) (seed : ℕ) (words : List ℕ) (entries : List Entry)
-    (items : List MakeStep) (old new : Outside T (Unit {0}) K) → Result (Unit {0}) MakeFault → Type 0
+    (items : List MakeStep) (old new : Outside T (Unit {0}) K) → Result (Unit {0}) StoreFault → Type 0
 RunEnds t k seed words entries items old new (Ok done) = HasRun t k seed words entries items old new status.Done
 RunEnds t k seed words entries items old new (Err fault.Protected) = HasRun t k seed words entries items old new status.Protected
 RunEnds t k seed words entries items old new (Err fault.TableMismatch) = HasRun t k seed words entries items old new status.TableMismatch
@@ -45,17 +46,18 @@ RunEnds t k seed words entries items old new (Err (fault.Mismatch segment)) = Ha
     (status.Mismatch segment)
 RunEnds t k seed words entries items old new (Err fault.Sink) = RunCut t k seed words entries items old new SinkFails
 RunEnds t k seed words entries items old new (Err fault.Tape) = RunCut t k seed words entries items old new TapeFails
+RunEnds t k seed words entries items old new (Err fault) = ⊥
 
 -- how a run of `make` on the cartridge of a store ended
 abbrev pub MakeEnds : {T K : Type 0} (t : tapes.Meaning T) (k : sinks.Meaning K) (store : StoreView) (seed count : ℕ)
-    (old new : Outside T (Unit {0}) K) → Result (Unit {0}) MakeFault → Type 0
+    (old new : Outside T (Unit {0}) K) → Result (Unit {0}) StoreFault → Type 0
 MakeEnds t k store seed count old new result =
     RunEnds t k seed store.words store.entries (making seed count store.words store.entries) old new result
 
 -- ---- the list
 
 -- one volume was added to a list; a refusal leaves it
-abbrev pub IsListed : Result (Unit {0}) MakeFault → (before after : List Entry) → Entry → Type 0
+abbrev pub IsListed : Result (Unit {0}) StoreFault → (before after : List Entry) → Entry → Type 0
 IsListed (Ok done) before after e = after ≡ before ++ e ∷ []
 IsListed (Err fault.Tape) before after e = Unit {0}
 IsListed (Err fault) before after e = after ≡ before
@@ -79,7 +81,7 @@ pub record HoldsBeforeFull (seed count need have : ℕ) (store after : StoreView
 
 -- All made volumes were added to the list of a store, or those that were appended before a refusal. The sink, and segments
 -- other than the table's, are asked for behind the appends.
-abbrev pub AreListed : Result (Unit {0}) MakeFault → (seed count : ℕ) → (store after : StoreView) → Type 0
+abbrev pub AreListed : Result (Unit {0}) StoreFault → (seed count : ℕ) → (store after : StoreView) → Type 0
 AreListed (Ok done) seed count store after = HoldsAll seed count store after
 AreListed (Err fault.Protected) seed count store after = HoldsSome seed count store after
 AreListed (Err fault.TableMismatch) seed count store after = HoldsSome seed count store after
@@ -89,8 +91,9 @@ AreListed (Err (fault.Lost segment lost)) seed count store after =
 AreListed (Err (fault.Mismatch segment)) seed count store after = HoldsAll seed count store after
 AreListed (Err fault.Sink) seed count store after = HoldsAll seed count store after
 AreListed (Err fault.Tape) seed count store after = Unit {0}
+AreListed (Err fault) seed count store after = ⊥
 
 -- no refusal for want of room
-abbrev pub NeverFull : Result (Unit {0}) MakeFault → Type 0
+abbrev pub NeverFull : Result (Unit {0}) StoreFault → Type 0
 NeverFull (Err (fault.Full need have)) = ⊥
 NeverFull result = Unit {0}

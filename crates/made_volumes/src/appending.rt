@@ -7,11 +7,11 @@ ghost use Rattle.volume_store.specs.Appending.{KeepsFormat};
 ghost use Rattle.volume_store.specs.Mounting.{StoreFits};
 ghost use Rattle.command_laws.specs.MadeTerms.{made_entry};
 ghost use Rattle.made_volumes.specs.Runs.{RunEnds, IsListed, AreListed};
-ghost use Rattle.made_volumes.specs.declared.fault.MakeFault.TheVariants.{Tape as tape_fault};
+ghost use Rattle.segment_io.specs.declared.fault.StoreFault.TheVariants.{Tape as tape_fault};
 
-use crate::fault::{MakeFault, step_fault};
 use drive_states::Unit;
 use qic_base::{Name, Tape};
+use segment_io::StoreFault;
 use tape_script::{Made, TextLine};
 use volume_store::Store;
 
@@ -42,7 +42,7 @@ fn append_volume<T: Tape>(
     unit: &mut Unit<T>,
     seed: u32,
     volume: u32,
-) -> Result<(), MakeFault>
+) -> Result<(), StoreFault>
     requires fits { StoreFits T.means store.old unit.old }
     ensures ends { RunEnds T.means no_sink seed store.old.words store.old.entries
         (AppendMade volume ∷ []) (around unit.old.tape tt) (around unit.new.tape tt) result }
@@ -54,10 +54,8 @@ fn append_volume<T: Tape>(
     let name = made_name(volume);
     let promised = made_length(seed, volume);
     let mut bytes = Made::new(seed, volume);
-    match store.append(unit, &name, 0, Some(promised), &mut bytes) {
-        Ok(_) => Ok(()),
-        Err(fault) => Err(step_fault(fault)),
-    }
+    store.append(unit, &name, 0, Some(promised), &mut bytes)?;
+    Ok(())
 }
 
 /// Appends so many made volumes behind the others, in order. Each refusal leaves those before it.
@@ -66,7 +64,7 @@ pub(crate) fn append_volumes<T: Tape>(
     unit: &mut Unit<T>,
     seed: u32,
     count: u32,
-) -> Result<(), MakeFault>
+) -> Result<(), StoreFault>
     requires fits { StoreFits T.means store.old unit.old }
     requires few { count ≤ 200 }
     ensures ends { RunEnds T.means no_sink seed store.old.words store.old.entries

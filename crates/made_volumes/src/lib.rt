@@ -3,10 +3,8 @@
 #![tactic(auto)]
 
 mod appending;
-mod fault;
 mod run;
 mod summing;
 mod wearing;
 
-pub use fault::MakeFault;
 pub use run::make_volumes;

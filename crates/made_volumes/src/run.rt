@@ -6,14 +6,14 @@ ghost use Rattle.volume_store.specs.Appending.{KeepsFormat};
 ghost use Rattle.volume_store.specs.Mounting.{StoreFits, KeepsStore};
 ghost use Rattle.command_spec.specs.Make.{ScrubAll};
 ghost use Rattle.made_volumes.specs.Runs.{RunEnds, MakeEnds, AreListed, NeverFull};
-ghost use Rattle.made_volumes.specs.declared.fault.MakeFault.TheVariants.{Tape as tape_fault};
+ghost use Rattle.segment_io.specs.declared.fault.StoreFault.TheVariants.{Tape as tape_fault};
 
 use crate::appending::append_volumes;
-use crate::fault::{MakeFault, step_fault};
 use crate::summing::sum_volumes;
 use crate::wearing::wear_volumes;
 use drive_states::Unit;
 use qic_base::{Sink, Tape};
+use segment_io::StoreFault;
 use volume_store::Store;
 
 /// Scrubs the cartridge.
@@ -21,7 +21,7 @@ fn scrub<T: Tape, K: Sink>(
     store: &mut Store,
     unit: &mut Unit<T>,
     sink: &mut K,
-) -> Result<(), MakeFault>
+) -> Result<(), StoreFault>
     requires fits { StoreFits T.means store.old unit.old }
     ensures ends { (seed : ℕ) → RunEnds T.means K.means seed store.old.words store.old.entries
         (ScrubAll ∷ []) (around unit.old.tape sink.old) (around unit.new.tape sink.new) result }
@@ -29,10 +29,8 @@ fn scrub<T: Tape, K: Sink>(
     ensures room { NeverFull result }
     ensures fits { result ≢ Err tape_fault → StoreFits T.means store.new unit.new }
 {
-    match store.scrub(unit, sink) {
-        Ok(_) => Ok(()),
-        Err(fault) => Err(step_fault(fault)),
-    }
+    store.scrub(unit, sink)?;
+    Ok(())
 }
 
 /// Makes so many volumes from a seed and appends them, each with its number of bytes promised; wears the first two
@@ -45,7 +43,7 @@ pub fn make_volumes<T: Tape, K: Sink>(
     seed: u32,
     count: u32,
     sink: &mut K,
-) -> Result<(), MakeFault>
+) -> Result<(), StoreFault>
     requires fits { StoreFits T.means store.old unit.old }
     requires few { count ≤ 200 }
     ensures ends { MakeEnds T.means K.means store.old seed count

@@ -5,11 +5,11 @@ ghost use Rattle.qic_base.specs.Alone.{around};
 ghost use Rattle.volume_store.specs.Mounting.{StoreFits, KeepsStore};
 ghost use Rattle.command_spec.specs.Make.{SumVolume, summing, sum_line};
 ghost use Rattle.made_volumes.specs.Runs.{RunEnds, NeverFull};
-ghost use Rattle.made_volumes.specs.declared.fault.MakeFault.TheVariants.{Tape as tape_fault};
+ghost use Rattle.segment_io.specs.declared.fault.StoreFault.TheVariants.{Tape as tape_fault};
 
-use crate::fault::{MakeFault, step_fault};
 use drive_states::Unit;
-use qic_base::{Sink, SinkFailed, Tape, write_text};
+use qic_base::{Sink, Tape, write_text};
+use segment_io::StoreFault;
 use tape_script::{Summed, TextLine};
 use volume_store::{Form, Store};
 
@@ -34,7 +34,7 @@ fn sum_volume<T: Tape, K: Sink>(
     unit: &mut Unit<T>,
     number: u32,
     sink: &mut K,
-) -> Result<(), MakeFault>
+) -> Result<(), StoreFault>
     requires fits { StoreFits T.means store.old unit.old }
     requires some { 1 ≤ number }
     requires within { number ≤ length store.old.entries }
@@ -45,14 +45,9 @@ fn sum_volume<T: Tape, K: Sink>(
     ensures fits { result ≢ Err tape_fault → StoreFits T.means store.new unit.new }
 {
     let mut summed = Summed::new();
-    let bytes = match store.restore(unit, number, Form::Alone, &mut summed) {
-        Ok(bytes) => bytes,
-        Err(fault) => return Err(step_fault(fault)),
-    };
-    match write_text(sum_text(number, bytes, summed.sum()).bytes(), sink) {
-        Ok(()) => Ok(()),
-        Err(SinkFailed) => Err(MakeFault::Sink),
-    }
+    let bytes = store.restore(unit, number, Form::Alone, &mut summed)?;
+    write_text(sum_text(number, bytes, summed.sum()).bytes(), sink)?;
+    Ok(())
 }
 
 /// Restores the volumes behind the first ones, and prints the line of each one's sum.
@@ -61,7 +56,7 @@ pub(crate) fn sum_volumes<T: Tape, K: Sink>(
     unit: &mut Unit<T>,
     first: u32,
     sink: &mut K,
-) -> Result<(), MakeFault>
+) -> Result<(), StoreFault>
     requires fits { StoreFits T.means store.old unit.old }
     requires first { first ≤ length store.old.entries }
     ensures ends { (seed : ℕ) → RunEnds T.means K.means seed store.old.words store.old.entries

@@ -7,12 +7,12 @@ ghost use Rattle.volume_store.specs.Mounting.{StoreFits};
 ghost use Rattle.command_spec.specs.Make.{WearSector, wearing_in, wearing_volumes};
 ghost use Rattle.command_laws.specs.MadeTerms.{first_two, wearing};
 ghost use Rattle.made_volumes.specs.Runs.{RunEnds, NeverFull};
-ghost use Rattle.made_volumes.specs.declared.fault.MakeFault.TheVariants.{Tape as tape_fault};
+ghost use Rattle.segment_io.specs.declared.fault.StoreFault.TheVariants.{Tape as tape_fault};
 
-use crate::fault::MakeFault;
 use bad_sector_map::FEWEST;
 use drive_states::{HandFault, Unit};
 use qic_base::{LostSet, Tape};
+use segment_io::StoreFault;
 use volume_store::Store;
 
 /// Sectors are worn in each segment whose number is a multiple of this.
@@ -27,7 +27,7 @@ fn wear_sector<T: Tape>(
     unit: &mut Unit<T>,
     segment: u32,
     sector: u32,
-) -> Result<(), MakeFault>
+) -> Result<(), StoreFault>
     requires fits { StoreFits T.means store.old unit.old }
     requires segment { segment < length store.old.words }
     requires sector { sector < 32 }
@@ -39,7 +39,7 @@ fn wear_sector<T: Tape>(
 {
     match store.wear(unit, segment, sector) {
         Ok(()) => Ok(()),
-        Err(HandFault::Tape) => Err(MakeFault::Tape),
+        Err(HandFault::Tape) => Err(StoreFault::Tape),
         Err(HandFault::NoCartridge) => unreachable!("the cartridge is mounted"),
         Err(HandFault::BadPlace) => unreachable!("the segment is one of the cartridge"),
         Err(HandFault::NotBlank) => unreachable!("a sector is worn whatever it holds"),
@@ -51,7 +51,7 @@ fn wear_first_two<T: Tape>(
     store: &mut Store,
     unit: &mut Unit<T>,
     segment: u32,
-) -> Result<(), MakeFault>
+) -> Result<(), StoreFault>
     requires fits { StoreFits T.means store.old unit.old }
     requires segment { segment < length store.old.words }
     ensures ends { (seed : ℕ) → RunEnds T.means no_sink seed store.old.words store.old.entries
@@ -77,7 +77,7 @@ fn wear_if_due<T: Tape>(
     store: &mut Store,
     unit: &mut Unit<T>,
     segment: u32,
-) -> Result<(), MakeFault>
+) -> Result<(), StoreFault>
     requires fits { StoreFits T.means store.old unit.old }
     requires segment { segment < length store.old.words }
     ensures ends { (seed : ℕ) → RunEnds T.means no_sink seed store.old.words store.old.entries
@@ -97,7 +97,7 @@ fn wear_if_due<T: Tape>(
 }
 
 /// Wears sectors of a volume, counted from 0.
-fn wear_volume<T: Tape>(store: &mut Store, unit: &mut Unit<T>, index: u32) -> Result<(), MakeFault>
+fn wear_volume<T: Tape>(store: &mut Store, unit: &mut Unit<T>, index: u32) -> Result<(), StoreFault>
     requires fits { StoreFits T.means store.old unit.old }
     requires index { index < length store.old.entries }
     ensures ends { (seed : ℕ) → IfSome (slice_get store.old.entries index) (λ e.
@@ -122,7 +122,7 @@ pub(crate) fn wear_volumes<T: Tape>(
     store: &mut Store,
     unit: &mut Unit<T>,
     first: u32,
-) -> Result<(), MakeFault>
+) -> Result<(), StoreFault>
     requires fits { StoreFits T.means store.old unit.old }
     requires first { first ≤ length store.old.entries }
     ensures ends { (seed : ℕ) → RunEnds T.means no_sink seed store.old.words store.old.entries

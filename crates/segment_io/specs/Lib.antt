@@ -1,4 +1,5 @@
 pub mod Calls
+pub mod Faults
 pub mod Gathered
 pub mod Lending
 pub mod Reading

@@ -1,12 +1,11 @@
 //! A segment read.
 
-ghost use Rattle.std.specs.Prelude.{◌≡◌, ◌≢◌, ◌<◌, ◌≤◌, ◌^◌, ℕ, [], true, length, take, IfOk, OnOk, IsOkUnless};
-ghost use Rattle.qic_base.specs.Cartridge.{view_at};
-ghost use Rattle.qic_base.specs.TapeCalls.{Does, Tells, ReadsSectors};
+ghost use Rattle.std.specs.Prelude.{◌≡◌, ◌≢◌, ◌<◌, ◌≤◌, ◌^◌, ℕ, [], true, length, take, IfOk, OnOk};
+ghost use Rattle.qic_base.specs.TapeCalls.{Does, Tells};
 ghost use Rattle.cartridge_spec.specs.Code.{IsCodeBlock};
 ghost use Rattle.cartridge_spec.specs.Shape.{usable_count};
 ghost use Rattle.cartridge_spec.specs.Says.{cells_of};
-ghost use Rattle.drive_states.specs.Reach.{reads_in, IsUnder};
+ghost use Rattle.drive_states.specs.Reach.{reads_in};
 ghost use Rattle.host_driver.specs.Calls.{IsReady, Keeps};
 ghost use Rattle.segment_io.specs.Calls.{HasSegment};
 ghost use Rattle.segment_io.specs.Gathered.{Gathered, NamesUnreadable};
@@ -18,7 +17,7 @@ use crate::solving::solve_collected;
 use crate::workspace::Workspace;
 use drive_states::Unit;
 use host_driver::Host;
-use qic_base::{LostSet, Sector, SectorsRead, Tape};
+use qic_base::{LostSet, Sector, Tape, TapeFailed};
 
 /// Reads the usable sectors of a segment into the first places of the workspace, ascending: bit `i` of `usable` stands
 /// for sector `i`. The answer is the places of those that can't be read.
@@ -28,12 +27,11 @@ pub fn collect<T: Tape>(
     segment: u32,
     usable: u32,
     work: &mut Workspace,
-) -> Result<LostSet, SegFault>
+) -> Result<LostSet, TapeFailed>
     requires ready { IsReady T.means host.old unit.old }
     requires segment { HasSegment unit.old.drive.deck segment usable }
     requires mode { reads_in unit.old.drive.deck.mode ≡ true }
     ensures did { Does T.means unit.old.tape unit.new.tape [] result }
-    ensures fault { IsOkUnless result SegFault.Tape }
     ensures gathered { IfOk result (λ lost. Tells T.means unit.old.tape (λ c.
         Gathered (cells_of c segment usable) lost work.new)) }
     // The places lie below the number of usable sectors, also where the tape tells nothing.
@@ -52,48 +50,23 @@ fn collect_into<T: Tape>(
     segment: u32,
     usable: u32,
     sectors: &mut [Sector],
-) -> Result<LostSet, SegFault>
+) -> Result<LostSet, TapeFailed>
     requires ready { IsReady T.means host.old unit.old }
     requires segment { HasSegment unit.old.drive.deck segment usable }
     requires mode { reads_in unit.old.drive.deck.mode ≡ true }
     requires room { length sectors.old ≡ 32 }
     ensures did { Does T.means unit.old.tape unit.new.tape [] result }
-    ensures fault { IsOkUnless result SegFault.Tape }
     ensures gathered { IfOk result (λ lost. Tells T.means unit.old.tape (λ c.
         Gathered (cells_of c segment usable) lost sectors.new)) }
     ensures within { IfOk result (λ lost. lost < 2 ^ usable_count usable) }
     ensures keeps { Keeps T.means host.new unit.old unit.new }
 {
-    host.go_to(unit, segment)?;
-    let read = read_usable(host, unit, segment, usable, sectors)?;
-    Ok(gather(sectors, usable, read.good))
-}
-
-/// Reads the usable sectors by one call, each into the entry at its index.
-fn read_usable<T: Tape>(
-    host: &mut Host,
-    unit: &mut Unit<T>,
-    segment: u32,
-    usable: u32,
-    sectors: &mut [Sector],
-) -> Result<SectorsRead, SegFault>
-    requires ready { IsReady T.means host.old unit.old }
-    requires mode { reads_in unit.old.drive.deck.mode ≡ true }
-    requires under { IsUnder unit.old.drive.deck segment 0 }
-    requires room { length sectors.old ≡ 32 }
-    ensures did { Does T.means unit.old.tape unit.new.tape [] result }
-    ensures fault { IsOkUnless result SegFault.Tape }
-    ensures reads { IfOk result (λ read. Tells T.means unit.old.tape (λ c.
-        ReadsSectors usable read.good read.blank (view_at c segment) sectors.old sectors.new)) }
-    ensures room { length sectors.new ≡ 32 }
-    ensures keeps { Keeps T.means host.new unit.old unit.new }
-{
-    match sectors.as_mut_array() {
-        Some(entries) => {
-            Ok(host.read_sectors(unit, segment, LostSet::from_mask(usable), entries)?)
-        }
+    host.go_to(unit, segment);
+    let read = match sectors.as_mut_array() {
+        Some(entries) => host.read_sectors(unit, segment, LostSet::from_mask(usable), entries)?,
         None => unreachable!("there are 32 sectors"),
-    }
+    };
+    Ok(gather(sectors, usable, read.good))
 }
 
 /// Reads a segment as `collect` does, and makes its sectors the code block that agrees with those that can be read. The

@@ -1,6 +1,6 @@
 //! A segment written.
 
-ghost use Rattle.std.specs.Prelude.{◌≡◌, ◌<◌, ◌+◌, ◌^◌, ◌++◌, [], ◌∷◌, length, drop, IsOkUnless, OnOk};
+ghost use Rattle.std.specs.Prelude.{◌≡◌, ◌<◌, ◌+◌, ◌^◌, ◌++◌, [], ◌∷◌, length, drop, OnOk};
 ghost use Rattle.qic_base.specs.Cartridge.{lost_places};
 ghost use Rattle.qic_base.specs.Step.{WriteSectors, write_sector};
 ghost use Rattle.qic_base.specs.TapeCalls.{Does, chosen};
@@ -11,13 +11,12 @@ ghost use Rattle.segment_io.specs.Calls.{HasSegment};
 ghost use Rattle.segment_io.specs.Writes.{first_sectors, named_write, usable_write};
 ghost use Rattle.cartridge_laws.specs.Writes.{block_in, segment_writes, named_writes};
 
-use crate::fault::SegFault;
 use crate::places::{at_indexes, spread};
 use crate::shape::count_usable;
 use crate::workspace::Workspace;
 use drive_states::Unit;
 use host_driver::Host;
-use qic_base::{LostSet, SECTORS, Sector, Tape};
+use qic_base::{LostSet, SECTORS, Sector, Tape, TapeFailed};
 use segment_parity::put_parity;
 
 /// Writes all usable sectors of a segment by one call: the data in the workspace, at the places before the last three, and
@@ -28,19 +27,18 @@ pub fn write_segment<T: Tape>(
     segment: u32,
     usable: u32,
     work: &mut Workspace,
-) -> Result<(), SegFault>
+) -> Result<(), TapeFailed>
     requires ready { IsReady T.means host.old unit.old }
     requires segment { HasSegment unit.old.drive.deck segment usable }
     requires writable { MayWrite unit.old.drive.deck }
     ensures did { Does T.means unit.old.tape unit.new.tape
         (segment_writes segment usable work.old) result }
-    ensures fault { IsOkUnless result SegFault.Tape }
     ensures parity { work.new ≡ block_in usable work.old ++ drop (usable_count usable) work.old }
     ensures keeps { Keeps T.means host.new unit.old unit.new }
 {
     let data = count_usable(usable) - 3;
     put_parity(&mut work.sectors, usize::from(data));
-    host.go_to(unit, segment)?;
+    host.go_to(unit, segment);
     write_first(host, unit, segment, usable, &work.sectors)
 }
 
@@ -51,39 +49,20 @@ fn write_first<T: Tape>(
     segment: u32,
     usable: u32,
     sectors: &[Sector],
-) -> Result<(), SegFault>
+) -> Result<(), TapeFailed>
     requires ready { IsReady T.means host.old unit.old }
     requires writable { MayWrite unit.old.drive.deck }
     requires under { IsUnder unit.old.drive.deck segment 0 }
     requires room { length sectors.now ≡ 32 }
     ensures did { Does T.means unit.old.tape unit.new.tape
         (WriteSectors segment (first_sectors usable sectors.now) ∷ []) result }
-    ensures fault { IsOkUnless result SegFault.Tape }
     ensures keeps { Keeps T.means host.new unit.old unit.new }
 {
+    let written = LostSet::from_mask(usable);
     match at_indexes(sectors, usable) {
-        Some(entries) => write_entries(host, unit, segment, usable, entries),
-        None => write_entries(host, unit, segment, usable, &spread(sectors, usable)),
-    }
-}
-
-/// Writes the usable sectors by one call, each from the entry at its index.
-fn write_entries<T: Tape>(
-    host: &mut Host,
-    unit: &mut Unit<T>,
-    segment: u32,
-    usable: u32,
-    entries: &[Sector; 32],
-) -> Result<(), SegFault>
-    requires ready { IsReady T.means host.old unit.old }
-    requires writable { MayWrite unit.old.drive.deck }
-    requires under { IsUnder unit.old.drive.deck segment 0 }
-    ensures did { Does T.means unit.old.tape unit.new.tape
-        (WriteSectors segment (chosen usable entries.now) ∷ []) result }
-    ensures fault { IsOkUnless result SegFault.Tape }
-    ensures keeps { Keeps T.means host.new unit.old unit.new }
-{
-    host.write_sectors(unit, segment, LostSet::from_mask(usable), entries)?;
+        Some(entries) => host.write_sectors(unit, segment, written, entries)?,
+        None => host.write_sectors(unit, segment, written, &spread(sectors, usable))?,
+    };
     Ok(())
 }
 
@@ -96,17 +75,16 @@ pub fn write_sectors<T: Tape>(
     usable: u32,
     places: LostSet,
     work: &Workspace,
-) -> Result<(), SegFault>
+) -> Result<(), TapeFailed>
     requires ready { IsReady T.means host.old unit.old }
     requires segment { HasSegment unit.old.drive.deck segment usable }
     requires writable { MayWrite unit.old.drive.deck }
     requires within { places < 2 ^ usable_count usable }
     ensures did { Does T.means unit.old.tape unit.new.tape
         (named_writes segment usable places work.now) result }
-    ensures fault { IsOkUnless result SegFault.Tape }
     ensures keeps { Keeps T.means host.new unit.old unit.new }
 {
-    host.go_to(unit, segment)?;
+    host.go_to(unit, segment);
     let sectors = work.sectors();
     let mut place = 0;
     for index in 0..SECTORS {
@@ -128,7 +106,7 @@ fn write_usable<T: Tape>(
     places: LostSet,
     place: &mut u8,
     sectors: &[Sector],
-) -> Result<(), SegFault>
+) -> Result<(), TapeFailed>
     requires ready { IsReady T.means host.old unit.old }
     requires writable { MayWrite unit.old.drive.deck }
     requires under { IsUnder unit.old.drive.deck segment index }
@@ -137,7 +115,6 @@ fn write_usable<T: Tape>(
     requires place { place.old ≡ length (lost_places usable index) }
     ensures did { Does T.means unit.old.tape unit.new.tape
         (usable_write segment usable index places place.old sectors.now) result }
-    ensures fault { IsOkUnless result SegFault.Tape }
     ensures place { OnOk result (place.new ≡ length (lost_places usable (index + 1))) }
     ensures under { IsUnder unit.new.drive.deck segment (index + 1) }
     ensures keeps { Keeps T.means host.new unit.old unit.new }
@@ -159,7 +136,7 @@ fn write_named<T: Tape>(
     places: LostSet,
     place: u8,
     sectors: &[Sector],
-) -> Result<(), SegFault>
+) -> Result<(), TapeFailed>
     requires ready { IsReady T.means host.old unit.old }
     requires writable { MayWrite unit.old.drive.deck }
     requires under { IsUnder unit.old.drive.deck segment index }
@@ -167,36 +144,11 @@ fn write_named<T: Tape>(
     requires room { place < length sectors.now }
     ensures did { Does T.means unit.old.tape unit.new.tape
         (named_write segment index places place sectors.now) result }
-    ensures fault { IsOkUnless result SegFault.Tape }
     ensures under { IsUnder unit.new.drive.deck segment (index + 1) }
     ensures keeps { Keeps T.means host.new unit.old unit.new }
 {
-    if !places.contains(place) {
-        return Ok(());
+    if places.contains(place) {
+        host.write_sector(unit, segment, index, &sectors[place as usize])?;
     }
-    write_at(host, unit, segment, index, place, sectors)
-}
-
-/// Writes the sector with this index from its place.
-fn write_at<T: Tape>(
-    host: &mut Host,
-    unit: &mut Unit<T>,
-    segment: u32,
-    index: u8,
-    place: u8,
-    sectors: &[Sector],
-) -> Result<(), SegFault>
-    requires ready { IsReady T.means host.old unit.old }
-    requires writable { MayWrite unit.old.drive.deck }
-    requires under { IsUnder unit.old.drive.deck segment index }
-    requires index { index < 32 }
-    requires room { place < length sectors.now }
-    ensures did { Does T.means unit.old.tape unit.new.tape
-        (write_sector segment index (sector_at sectors.now place) ∷ []) result }
-    ensures fault { IsOkUnless result SegFault.Tape }
-    ensures under { IsUnder unit.new.drive.deck segment (index + 1) }
-    ensures keeps { Keeps T.means host.new unit.old unit.new }
-{
-    host.write_sector(unit, segment, index, &sectors[place as usize])?;
     Ok(())
 }

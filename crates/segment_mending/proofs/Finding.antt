@@ -1,7 +1,6 @@
 -- What is found of a segment, by the deep reading of its cells.
 use Rattle.std.proofs.Common.{◌≡◌, ◌≢◌, ◌↔◌, ℕ, ◌+◌, ◌<◌, ◌≤◌, refl, sym, ◌∙◌, ap, subst, arith, inl, inr, true, false, List, length}
-use Rattle.std.proofs.Common.{slice_get, get_or, slice_index, Option, Some, None, IsSomeAnd, Result, Ok, Err}
-use Rattle.std.specs.Prelude.{IfOk}
+use Rattle.std.proofs.Common.{slice_get, get_or, slice_index, Option, Some, None, IsSomeAnd}
 use Rattle.std.proofs.lemmas.Bool.{cases_eq, cases_lt, false≢true}
 use Rattle.std.proofs.lemmas.Option.{slice_get_past}
 use Rattle.cartridge_laws.proofs.ChangeViews.{held_before, worn_reads_no_more}
@@ -23,12 +22,10 @@ use Rattle.qic_base.specs.Cartridge.{Cartridge, view_at}
 use Rattle.qic_base.specs.CartridgeTerms.{IsLost}
 use Rattle.qic_base.specs.Step.{worn_view}
 use Rattle.qic_base.specs.Tape.{Meaning}
-use Rattle.qic_base.specs.TapeCalls.{Tells}
 use Rattle.qic_base.specs.declared.tape.SectorView.{SectorView}
 use Rattle.qic_base.specs.declared.tape.SectorView.TheVariants.{Holds}
 use Rattle.segment_io.specs.Gathered.{IsUnreadableAt, NamesUnreadable}
-use Rattle.segment_mending.specs.Locating.{IsFoundBy, DeepFinds}
-use Rattle.segment_mending.specs.declared.fault.ScrubFault.{ScrubFault}
+use Rattle.segment_mending.specs.Locating.{IsFoundBy, MayBeIn, Finds}
 use Rattle.segment_mending.specs.declared.locating.Found.{Found}
 use Rattle.segment_mending.specs.declared.locating.Found.TheVariants.{Reads, Fails}
 use Rattle.silent_locate.proofs.Readings.{one_deep_reading}
@@ -193,28 +190,29 @@ names_with_wrong c l place lost places within names here others i =
           )
     ]
 
--- ---- what is found of a segment that is searched
+-- ---- what is found of a segment that is searched on two like conditions
 
-pub for_searched : (searched : Type 0) (c : Cartridge) (l : Looked) (found : Found) (sectors : List (List ℕ)) → searched →
-    DeepFinds c l found sectors → IsFoundBy searched c l found sectors
-for_searched searched c l (Reads places None) sectors is found =
-    record { finds = (found.finds.0, λ again. found.finds.1 tt); places = found.places }
-for_searched searched c l (Reads places (Some sector)) sectors is found =
-    record { finds = (is, found.finds.1, found.finds.2, found.finds.3); places = found.places }
-for_searched searched c l (Fails why) sectors is found =
-    record { finds = (found.finds.0, λ again. found.finds.1 tt); places = tt }
+found_by : (p q : Type 0) (c : Cartridge) (l : Looked) (found : Found) (sectors : List (List ℕ)) → p ↔ q →
+    IsFoundBy p c l found sectors → IsFoundBy q c l found sectors
+found_by p q c l (Reads places None) sectors like found =
+    record { finds = (found.finds.0, λ is. found.finds.1 (like.1 is)); places = found.places }
+found_by p q c l (Reads places (Some sector)) sectors like found =
+    record { finds = (like.0 found.finds.0, found.finds.1, found.finds.2, found.finds.3); places = found.places }
+found_by p q c l (Fails why) sectors like found =
+    record { finds = (found.finds.0, λ is. found.finds.1 (like.1 is)); places = tt }
 
--- or that isn't
-pub for_unsearched : (searched : Type 0) (c : Cartridge) (l : Looked) (found : Found) (sectors : List (List ℕ)) → (searched → ⊥) →
-    IsFoundBy ⊥ c l found sectors → IsFoundBy searched c l found sectors
-for_unsearched searched c l (Reads places None) sectors not found =
-    record { finds = (found.finds.0, λ is. absurd (not is)); places = found.places }
-for_unsearched searched c l (Reads places (Some sector)) sectors not found = absurd found.finds.0
-for_unsearched searched c l (Fails why) sectors not found = record { finds = (found.finds.0, λ is. absurd (not is)); places = tt }
+may_by : (p q : Type 0) (l : Looked) (found : Found) (sectors : List (List ℕ)) → p ↔ q →
+    MayBeIn p l found sectors → MayBeIn q l found sectors
+may_by p q l (Reads places None) sectors like may =
+    record { within = may.within; code = may.code; can_be_read = may.can_be_read; may = tt }
+may_by p q l (Reads places (Some sector)) sectors like may =
+    record { within = may.within; code = may.code; can_be_read = may.can_be_read; may = (like.0 may.may.0, may.may.1) }
+may_by p q l (Fails why) sectors like may = may
 
--- by the answer of a call
-pub found_tells : {T : Type 0} (m : Meaning T) (s : T) (P Q : Found → Cartridge → Type 0) (result : Result Found ScrubFault) →
-    ((found : Found) (c : Cartridge) → P found c → Q found c) → IfOk result (λ found. Tells m s (P found)) →
-    IfOk result (λ found. Tells m s (Q found))
-found_tells m s P Q (Ok found) follows told = Tells-map m s (P found) (Q found) (follows found) told
-found_tells m s P Q (Err fault) follows told = tt
+pub finds_by : {T : Type 0} (t : Meaning T) (tape : T) (p q : Type 0) (l : Looked) (found : Found) (sectors : List (List ℕ)) → p ↔ q →
+    Finds t tape p l found sectors → Finds t tape q l found sectors
+finds_by t tape p q l found sectors like finds = record {
+  told = Tells-map t tape (λ c. IsFoundBy p c l found sectors) (λ c. IsFoundBy q c l found sectors)
+      (λ c is. found_by p q c l found sectors like is) finds.told;
+  may = record { fits = may_by p q l found sectors like finds.may.fits; count = λ is. finds.may.count (like.1 is) };
+}

@@ -15,9 +15,11 @@ use Rattle.qic_base.proofs.Joins.{steps_of-append, text_of-append, nothing_went,
 use Rattle.cartridge_spec.specs.Settling.{changed_by}
 use Rattle.command_spec.specs.Scrub.{Looked, Counts, unread_count, Finding, FindInTurn, finding_acts, lines_for, sayings_of}
 use Rattle.command_spec.specs.declared.depth.Depth.{Depth}
-use Rattle.segment_mending.specs.declared.fault.ScrubFault.{ScrubFault}
-use Rattle.segment_mending.specs.declared.fault.ScrubFault.TheVariants as fault
+use Rattle.segment_io.specs.declared.fault.StoreFault.{StoreFault}
+use Rattle.segment_io.specs.declared.fault.StoreFault.TheVariants as fault
+use Rattle.segment_mending.specs.declared.progress.Progress.{Progress}
 use Rattle.segment_mending.specs.Looking.{AreActs, Counted, HasLooked, LookingCut, Looks, HasFew}
+use Rattle.segment_mending.specs.Mending.{reported}
 use Rattle.segment_mending.proofs.Parts.{behind, turns_join, acts_join, TurnsOf, turns_part, as_many, may_join, lines_join, unread_join}
 use Rattle.segment_mending.proofs.Parts.{unread_most, mismatches, mismatches_may, line_acts, text_of_lines}
 use Rattle.command_laws.proofs.ScrubOneWrong.{one_turn}
@@ -88,38 +90,43 @@ few_more most more a within few = record {
 
 -- ---- runs
 
-module _ {T K : Type 0} {t : tapes.Meaning T} {k : sinks.Meaning K} (depth : Depth) where
+module _ {T K : Type 0} {t : tapes.Meaning T} {k : sinks.Meaning K} where
   -- no segment yet
-  pub looked_none : ((x : K) → k.took x [] x) → (a : Outside T (Unit {0}) K) (counts : Counts) → HasLooked t k depth [] a a counts counts
-  looked_none nothing a counts = record {
+  pub looked_none : ((x : K) → k.took x [] x) → (a : Outside T (Unit {0}) K) (now : Progress) → HasLooked t k [] a a now now
+  looked_none nothing a now = record {
     findings = [];
     acts = [];
     are = record { told = none_told (t.told a.tape); may = tt; text = refl };
     went = nothing_went t no_source k nothing a;
     counted = record { segments = omega arith; mended = omega arith; unreadable = omega arith; few = omega arith };
+    depth = refl;
   }
     where
       none_told : (o : Option (Option Cartridge)) →
-          IfSome o (λ held. IfSome held (λ c. FindInTurn depth c [] [] × ([] ≡ finding_acts c [] [])))
+          IfSome o (λ held. IfSome held (λ c. FindInTurn now.depth c [] [] × ([] ≡ finding_acts c [] [])))
       none_told None = tt
       none_told (Some None) = tt
       none_told (Some (Some c)) = (tt, refl)
 
-  pub looked_both : TakesBoth k → (xs ys : List Looked) (a b c : Outside T (Unit {0}) K) (before between after : Counts) →
-      HasLooked t k depth xs a b before between → HasLooked t k depth ys b c between after → HasLooked t k depth (xs ++ ys) a c before after
-  looked_both both xs ys a b c before between after first next = record {
-    findings = first.findings ++ next.findings;
-    acts = first.acts ++ next.acts;
-    are = acts_both t a.tape b.tape depth xs ys first.findings next.findings first.acts next.acts first.went.did first.are next.are;
-    went = went_both t no_source k both a b c first.acts next.acts first.went next.went;
-    counted = counted_both xs ys first.findings next.findings first.acts next.acts before between after
-        (as_many depth xs first.findings first.are.may) first.counted next.counted;
-  }
+  pub looked_both : TakesBoth k → (xs ys : List Looked) (a b c : Outside T (Unit {0}) K) (before between after : Progress) →
+      HasLooked t k xs a b before between → HasLooked t k ys b c between after → HasLooked t k (xs ++ ys) a c before after
+  looked_both both xs ys a b c before between after first next =
+      let are : AreActs t b.tape before.depth ys next.findings next.acts =
+      subst (λ (form : Depth). AreActs t b.tape form ys next.findings next.acts) first.depth next.are in
+      record {
+        findings = first.findings ++ next.findings;
+        acts = first.acts ++ next.acts;
+        are = acts_both t a.tape b.tape before.depth xs ys first.findings next.findings first.acts next.acts first.went.did first.are are;
+        went = went_both t no_source k both a b c first.acts next.acts first.went next.went;
+        counted = counted_both xs ys first.findings next.findings first.acts next.acts (reported before.report) (reported between.report)
+            (reported after.report) (as_many before.depth xs first.findings first.are.may) first.counted next.counted;
+        depth = next.depth ∙ first.depth;
+      }
 
   -- segments behind those
-  pub cut_longer : (xs ys : List Looked) (a b : Outside T (Unit {0}) K) (failing : Failing) → LookingCut t k depth xs a b failing →
-      LookingCut t k depth (xs ++ ys) a b failing
-  cut_longer xs ys a b failing cut =
+  cut_longer : (depth : Depth) (xs ys : List Looked) (a b : Outside T (Unit {0}) K) (failing : Failing) →
+      LookingCut t k depth xs a b failing → LookingCut t k depth (xs ++ ys) a b failing
+  cut_longer depth xs ys a b failing cut =
       let more : List Finding = mismatches ys in
       record {
         told = Tells-map t a.tape
@@ -145,9 +152,12 @@ module _ {T K : Type 0} {t : tapes.Meaning T} {k : sinks.Meaning K} (depth : Dep
       }
 
   -- segments that were looked at before those
-  pub looked_then_cut : TakesBoth k → (xs ys : List Looked) (a b c : Outside T (Unit {0}) K) (before between : Counts) (failing : Failing) →
-      HasLooked t k depth xs a b before between → LookingCut t k depth ys b c failing → LookingCut t k depth (xs ++ ys) a c failing
-  looked_then_cut both xs ys a b c before between failing first cut =
+  looked_then_cut : TakesBoth k → (xs ys : List Looked) (a b c : Outside T (Unit {0}) K) (before between : Progress) (failing : Failing) →
+      HasLooked t k xs a b before between → LookingCut t k between.depth ys b c failing →
+      LookingCut t k before.depth (xs ++ ys) a c failing
+  looked_then_cut both xs ys a b c before between failing first next =
+      let depth : Depth = before.depth in
+      let cut : LookingCut t k depth ys b c failing = subst (λ (form : Depth). LookingCut t k form ys b c failing) first.depth next in
       let steps : List Step = steps_of first.acts in
       record {
         told = tells_two t a.tape (λ d. FindInTurn depth d xs first.findings × (first.acts ≡ finding_acts d xs first.findings))
@@ -184,19 +194,19 @@ module _ {T K : Type 0} {t : tapes.Meaning T} {k : sinks.Meaning K} (depth : Dep
 
 -- ---- by answers
 
-module _ {T K : Type 0} (t : tapes.Meaning T) (k : sinks.Meaning K) (depth : Depth) where
-  pub looks_then : TakesBoth k → (xs ys : List Looked) (a b c : Outside T (Unit {0}) K) (before between after : Counts)
-      (result : Result (Unit {0}) ScrubFault) →
-      HasLooked t k depth xs a b before between → Looks t k depth ys b c between after result →
-      Looks t k depth (xs ++ ys) a c before after result
-  looks_then both xs ys a b c before between after (Ok done) first next = looked_both depth both xs ys a b c before between after first next
+module _ {T K : Type 0} (t : tapes.Meaning T) (k : sinks.Meaning K) where
+  pub looks_then : TakesBoth k → (xs ys : List Looked) (a b c : Outside T (Unit {0}) K) (before between after : Progress)
+      (result : Result (Unit {0}) StoreFault) →
+      HasLooked t k xs a b before between → Looks t k ys b c between after result → Looks t k (xs ++ ys) a c before after result
+  looks_then both xs ys a b c before between after (Ok done) first next = looked_both both xs ys a b c before between after first next
   looks_then both xs ys a b c before between after (Err fault.Sink) first next =
-      looked_then_cut depth both xs ys a b c before between SinkFails first next
+      looked_then_cut both xs ys a b c before between SinkFails first next
   looks_then both xs ys a b c before between after (Err fault.Tape) first next =
-      looked_then_cut depth both xs ys a b c before between TapeFails first next
+      looked_then_cut both xs ys a b c before between TapeFails first next
+  looks_then both xs ys a b c before between after (Err other) first next = absurd next
 
-  pub looks_longer : (xs ys : List Looked) (a b : Outside T (Unit {0}) K) (before after other : Counts) (why : ScrubFault) →
-      Looks t k depth xs a b before after (Err why) →
-      Looks t k depth (xs ++ ys) a b before other (Err why)
-  looks_longer xs ys a b before after other fault.Sink cut = cut_longer depth xs ys a b SinkFails cut
-  looks_longer xs ys a b before after other fault.Tape cut = cut_longer depth xs ys a b TapeFails cut
+  pub looks_longer : (xs ys : List Looked) (a b : Outside T (Unit {0}) K) (before after other : Progress) (why : StoreFault) →
+      Looks t k xs a b before after (Err why) → Looks t k (xs ++ ys) a b before other (Err why)
+  looks_longer xs ys a b before after other fault.Sink cut = cut_longer before.depth xs ys a b SinkFails cut
+  looks_longer xs ys a b before after other fault.Tape cut = cut_longer before.depth xs ys a b TapeFails cut
+  looks_longer xs ys a b before after other why cut = absurd cut

@@ -66,6 +66,20 @@ pub segments_next : (words : List ℕ) (start segment : ℕ) → start ≤ segme
     ≡ looked_segments words (carrying_below words start (segment + 1))
 segments_next words start segment low = segments_whole words start segment (segment + 1) low (omega arith)
 
+-- a segment with this mask, if it carries data, ..
+pub one_looked : (words : List ℕ) (segment usable : ℕ) → usable ≡ mask_at words segment → 4 ≤ usable_count usable →
+    record { segment = segment; mask = usable } ∷ [] ≡ looked_segments words (carrying words segment segment)
+one_looked words segment usable is many =
+    let alone : carrying words segment segment ≡ segment ∷ [] =
+    one_carries words segment (subst (λ (mask : ℕ). 4 ≤ usable_count mask) is many) in
+    ap (λ (mask : ℕ). record { segment = segment; mask = mask } ∷ []) is ∙ sym (ap (looked_segments words) alone)
+
+-- .. and none if it doesn't
+pub none_looked : (words : List ℕ) (segment usable : ℕ) → usable ≡ mask_at words segment → usable_count usable < 4 →
+    looked_segments words (carrying words segment segment) ≡ []
+none_looked words segment usable is few =
+    ap (looked_segments words) (none_carries words segment (subst (λ (mask : ℕ). usable_count mask < 4) is few))
+
 length-segments : (words xs : List ℕ) → length (looked_segments words xs) ≡ length xs
 length-segments words [] = refl
 length-segments words (x ∷ xs) = ap suc (length-segments words xs)

@@ -1,7 +1,6 @@
 -- One segment looked at: it was read, and then mended, or its line was printed.
 use Rattle.std.proofs.Common.{◌≡◌, ℕ, ◌+◌, ◌≤◌, Bool, true, false, cond, List, [], ◌∷◌, ◌++◌, length, refl, sym, ap, ◌∙◌, subst, arith}
 use Rattle.std.proofs.Common.{Option, None, Some, Result, Ok, Err, OnOk, append-nil, nat_lt}
-use Rattle.std.specs.Prelude.{IsOkUnless}
 use Rattle.qic_base.specs.Cartridge.{Cartridge}
 use Rattle.qic_base.specs.Step.{Step}
 use Rattle.qic_base.proofs.Steps.{Tells-map}
@@ -21,16 +20,18 @@ use Rattle.command_laws.proofs.ScrubNamed.{steps_by_places, count_of_named}
 use Rattle.command_laws.proofs.ScrubOneWrong.{finds_one}
 use Rattle.segment_mending.specs.Lines.{header_line}
 use Rattle.segment_io.proofs.Going.{tells_always}
-use Rattle.segment_mending.specs.declared.fault.ScrubFault.{ScrubFault}
+use Rattle.segment_io.specs.declared.fault.StoreFault.{StoreFault}
 use Rattle.segment_mending.specs.declared.locating.Found.TheVariants.{Reads, Fails}
 use Rattle.segment_mending.specs.declared.locating.Unread.{Unread}
-use Rattle.segment_mending.specs.Locating.{data_in, unread_saying, finding_of, IsFound, MayBeWrong, MayMend, mending, GoesAs}
+use Rattle.segment_mending.specs.Locating.{data_in, unread_saying, finding_of, IsFoundBy, MayBeWrong, MayMend, mending, GoesAs}
+use Rattle.segment_mending.specs.declared.progress.Progress.{Progress}
 use Rattle.segment_mending.specs.Looking.{AreActs, Counted, LookingCut, Looks, with_mended, with_unread}
+use Rattle.segment_mending.specs.Mending.{reported}
 use Rattle.qic_base.specs.Sink as sinks
 use Rattle.qic_base.specs.SinkCalls as sink_calls
 use Rattle.qic_base.specs.Tape as tapes
 use Rattle.qic_base.specs.TapeCalls as tape_calls
-use Rattle.segment_mending.specs.declared.fault.ScrubFault.TheVariants as fault
+use Rattle.segment_io.specs.declared.fault.StoreFault.TheVariants as fault
 
 -- ---- the act
 
@@ -62,14 +63,15 @@ may_find depth l s (Some sector) can may = (may.0, can, may.1)
 
 pub are_mended : {T : Type 0} (t : tapes.Meaning T) (a : T) (depth : Depth) (l : Looked) (places : ℕ) (wrong : Option ℕ)
     (sectors : List (List ℕ)) →
-    tape_calls.Tells t a (λ c. IsFound depth c l (Reads places wrong) sectors) → MayMend (IsSearched depth l) l places wrong sectors →
+    tape_calls.Tells t a (λ c. IsFoundBy (IsSearched depth l) c l (Reads places wrong) sectors) →
+    MayMend (IsSearched depth l) l places wrong sectors →
     usable_count l.mask ≤ length sectors →
     AreActs t a depth (l ∷ []) (finding_of l (Reads places wrong) sectors ∷ []) (mending l places wrong sectors ∷ [])
 are_mended t a depth l places wrong sectors told may room =
     let f : Finding = finding_of l (Reads places wrong) sectors in
     let text : wrong_line l.segment wrong ≡ line_for l f = line_of_wrong l f.saying wrong may.can_be_read in
     record {
-      told = Tells-map t a (λ c. IsFound depth c l (Reads places wrong) sectors)
+      told = Tells-map t a (λ c. IsFoundBy (IsSearched depth l) c l (Reads places wrong) sectors)
           (λ c. FindInTurn depth c (l ∷ []) (f ∷ []) × (mending l places wrong sectors ∷ [] ≡ finding_acts c (l ∷ []) (f ∷ [])))
           (λ c is.
           let steps : named_writes l.segment l.mask places sectors ≡ steps_for c l f =
@@ -84,13 +86,13 @@ are_mended t a depth l places wrong sectors told may room =
     }
 
 pub are_unread : {T : Type 0} (t : tapes.Meaning T) (a : T) (depth : Depth) (l : Looked) (why : Unread) (sectors : List (List ℕ)) →
-    tape_calls.Tells t a (λ c. IsFound depth c l (Fails why) sectors) → reads l (unread_saying l why sectors) ≡ false →
+    tape_calls.Tells t a (λ c. IsFoundBy (IsSearched depth l) c l (Fails why) sectors) → reads l (unread_saying l why sectors) ≡ false →
     AreActs t a depth (l ∷ []) (finding_of l (Fails why) sectors ∷ []) (telling l (unread_saying l why sectors) ∷ [])
 are_unread t a depth l why sectors told not_read =
     let s : Saying = unread_saying l why sectors in
     let f : Finding = finding_of l (Fails why) sectors in
     record {
-      told = Tells-map t a (λ c. IsFound depth c l (Fails why) sectors)
+      told = Tells-map t a (λ c. IsFoundBy (IsSearched depth l) c l (Fails why) sectors)
           (λ c. FindInTurn depth c (l ∷ []) (f ∷ []) × (telling l s ∷ [] ≡ finding_acts c (l ∷ []) (f ∷ [])))
           (λ c is. ((is.finds, tt), ap (λ (steps : List Step). act_of steps (line_in l s) ∷ []) (sym (no_steps c l s not_read))))
           told;
@@ -126,27 +128,26 @@ counted_unread l why sectors before after not_read is =
       few = omega arith;
     }
 
-abbrev fails : ScrubFault → Result (Unit {0}) ScrubFault
-fails why = Err why
-
 -- ---- runs
 
 module _ {T K : Type 0} (t : tapes.Meaning T) (k : sinks.Meaning K) where
   -- steps that were done, and then a text
-  pub goes_on : (a b : T) (s after : K) (act : Act) (result : Result (Unit {0}) ScrubFault) → tapes.Done t a b act.steps →
-      sink_calls.Writes k s after act.text result → IsOkUnless result fault.Sink → GoesAs t k act (around a s) (around b after) result
-  goes_on a b s after act (Ok done) did wrote sound = record {
+  pub goes_written : (a b : T) (s after : K) (act : Act) → tapes.Done t a b act.steps → sinks.Wrote k s after act.text →
+      Went t no_source k (around a s) (around b after) (act ∷ [])
+  goes_written a b s after act did wrote = record {
     did = subst (tapes.Done t a b) (sym (append-nil act.steps)) did;
     wrote = subst (sinks.Wrote k s after) (sym (append-nil act.text)) wrote;
     source_later = omega arith;
   }
-  goes_on a b s after act (Err fault.Sink) did wrote sound = sink_cut_one t no_source k (around a s) (around b after) act did wrote
-      (omega arith)
-  goes_on a b s after act (Err fault.Tape) did wrote sound = cc
+
+  -- of which a front was written
+  pub goes_unwritten : (a b : T) (s after : K) (act : Act) → tapes.Done t a b act.steps → sink_calls.BrokeOff k s after act.text →
+      Cut t no_source k (around a s) (around b after) (act ∷ []) SinkFails
+  goes_unwritten a b s after act did broke = sink_cut_one t no_source k (around a s) (around b after) act did broke (omega arith)
 
   -- steps that broke off
   pub goes_broken : ((x : K) → k.took x [] x) → (a b : T) (s : K) (act : Act) → tapes.Broke t a b act.steps →
-      GoesAs t k act (around a s) (around b s) (Err fault.Tape)
+      Cut t no_source k (around a s) (around b s) (act ∷ []) TapeFails
   goes_broken nothing a b s act broke = record {
     front = [];
     rest = act ∷ [];
@@ -157,30 +158,23 @@ module _ {T K : Type 0} (t : tapes.Meaning T) (k : sinks.Meaning K) where
     source_later = omega arith;
   }
 
-  pub goes_failed : ((x : K) → k.took x [] x) → (a b : T) (s : K) (act : Act) (result : Result (Unit {0}) ScrubFault) (why : ScrubFault) →
-      result ≡ Err why →
-      IsOkUnless (fails why) fault.Tape → tapes.Broke t a b act.steps → GoesAs t k act (around a s) (around b s) result
-  goes_failed nothing a b s act result fault.Tape is sound broke =
-      subst (λ (r : Result (Unit {0}) ScrubFault). GoesAs t k act (around a s) (around b s) r) (sym is)
-      (goes_broken nothing a b s act broke)
-  goes_failed nothing a b s act result fault.Sink is sound broke = cc
-
   -- behind a reading
   pub goes_behind : ((x : K) → k.took x [] x) → TakesBoth k → (a m : T) (s : K) (c : Outside T (Unit {0}) K) (act : Act)
-      (result : Result (Unit {0}) ScrubFault) →
+      (result : Result (Unit {0}) StoreFault) →
       tapes.Done t a m [] → GoesAs t k act (around m s) c result → GoesAs t k act (around a s) c result
   goes_behind nothing both a m s c act result read = by_answer result
     where
       first : Went t no_source k (around a s) (around m s) []
       first = record { did = read; wrote = record { took = nothing s; later = omega arith }; source_later = omega arith }
 
-      by_answer : (r : Result (Unit {0}) ScrubFault) → GoesAs t k act (around m s) c r → GoesAs t k act (around a s) c r
+      by_answer : (r : Result (Unit {0}) StoreFault) → GoesAs t k act (around m s) c r → GoesAs t k act (around a s) c r
       by_answer (Ok done) went = went_both t no_source k both (around a s) (around m s) c [] (act ∷ []) first went
       by_answer (Err fault.Sink) cut = went_then_cut t no_source k both (around a s) (around m s) c [] (act ∷ []) SinkFails first cut
       by_answer (Err fault.Tape) cut = went_then_cut t no_source k both (around a s) (around m s) c [] (act ∷ []) TapeFails first cut
+      by_answer (Err other) cut = absurd cut
 
   -- the reading failed
-  read_cut : ((x : K) → k.took x [] x) → (depth : Depth) (l : Looked) (a b : T) (s : K) → tapes.Broke t a b [] →
+  pub read_cut : ((x : K) → k.took x [] x) → (depth : Depth) (l : Looked) (a b : T) (s : K) → tapes.Broke t a b [] →
       LookingCut t k depth (l ∷ []) (around a s) (around b s) TapeFails
   read_cut nothing depth l a b s broke =
       let none : Cut t no_source k (around a s) (around b s) [] TapeFails = record {
@@ -206,7 +200,7 @@ module _ {T K : Type 0} (t : tapes.Meaning T) (k : sinks.Meaning K) where
       }
 
   -- an act that is that of the segment's finding is cut off whatever the segment is found to be
-  act_cut : (depth : Depth) (l : Looked) (a b : Outside T (Unit {0}) K) (failing : Failing) (f : Finding) (act : Act) →
+  pub act_cut : (depth : Depth) (l : Looked) (a b : Outside T (Unit {0}) K) (failing : Failing) (f : Finding) (act : Act) →
       AreActs t a.tape depth (l ∷ []) (f ∷ []) (act ∷ []) → Cut t no_source k a b (act ∷ []) failing →
       LookingCut t k depth (l ∷ []) a b failing
   act_cut depth l a b failing f act are cut = record {
@@ -231,20 +225,18 @@ module _ {T K : Type 0} (t : tapes.Meaning T) (k : sinks.Meaning K) where
       by_others c here (g ∷ h ∷ hs) found = absurd (found.1)
 
   -- by the answer
-  pub looks_once : (depth : Depth) (l : Looked) (a b : Outside T (Unit {0}) K) (f : Finding) (act : Act) (before after : Counts)
-      (result : Result (Unit {0}) ScrubFault) → AreActs t a.tape depth (l ∷ []) (f ∷ []) (act ∷ []) → GoesAs t k act a b result →
-      OnOk result (Counted (l ∷ []) (f ∷ []) (act ∷ []) before after) → Looks t k depth (l ∷ []) a b before after result
-  looks_once depth l a b f act before after (Ok done) are went counted = record {
+  pub looks_once : (l : Looked) (a b : Outside T (Unit {0}) K) (f : Finding) (act : Act) (before after : Progress)
+      (result : Result (Unit {0}) StoreFault) → AreActs t a.tape before.depth (l ∷ []) (f ∷ []) (act ∷ []) → GoesAs t k act a b result →
+      OnOk result (Counted (l ∷ []) (f ∷ []) (act ∷ []) (reported before.report) (reported after.report)) → after.depth ≡ before.depth →
+      Looks t k (l ∷ []) a b before after result
+  looks_once l a b f act before after (Ok done) are went counted same = record {
     findings = f ∷ [];
     acts = act ∷ [];
     are = are;
     went = went;
     counted = counted;
+    depth = same;
   }
-  looks_once depth l a b f act before after (Err fault.Sink) are cut counted = act_cut depth l a b SinkFails f act are cut
-  looks_once depth l a b f act before after (Err fault.Tape) are cut counted = act_cut depth l a b TapeFails f act are cut
-
-  pub looks_failed : ((x : K) → k.took x [] x) → (depth : Depth) (l : Looked) (a b : T) (s : K) (before after : Counts) (why : ScrubFault) →
-      IsOkUnless (fails why) fault.Tape → tapes.Broke t a b [] → Looks t k depth (l ∷ []) (around a s) (around b s) before after (Err why)
-  looks_failed nothing depth l a b s before after fault.Tape sound broke = read_cut nothing depth l a b s broke
-  looks_failed nothing depth l a b s before after fault.Sink sound broke = cc
+  looks_once l a b f act before after (Err fault.Sink) are cut counted same = act_cut before.depth l a b SinkFails f act are cut
+  looks_once l a b f act before after (Err fault.Tape) are cut counted same = act_cut before.depth l a b TapeFails f act are cut
+  looks_once l a b f act before after (Err other) are cut counted same = absurd cut

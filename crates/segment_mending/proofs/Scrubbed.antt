@@ -12,7 +12,8 @@ use Rattle.command_spec.specs.Scrub.{finding_acts, sayings_of, whole_segment, lo
 use Rattle.command_laws.specs.ScrubTerms.{last_act, counts_for}
 use Rattle.command_spec.specs.declared.depth.Depth.{Depth}
 use Rattle.command_laws.proofs.ScrubOneWrong.{form_is_function}
-use Rattle.segment_mending.specs.declared.fault.ScrubFault.{ScrubFault}
+use Rattle.segment_io.specs.declared.fault.StoreFault.{StoreFault}
+use Rattle.segment_mending.specs.declared.progress.Progress.{Progress}
 use Rattle.segment_mending.specs.declared.report.ScrubReport.{ScrubReport}
 use Rattle.segment_mending.specs.Looking.{Counted, HasLooked, LookingCut, Looks}
 use Rattle.segment_mending.specs.Mending.{reported, HasScrubbed, ScrubCut, ScrubEnds}
@@ -20,23 +21,24 @@ use Rattle.segment_mending.proofs.Joining.{looked_both}
 use Rattle.qic_base.specs.Sink as sinks
 use Rattle.qic_base.specs.SinkCalls as sink_calls
 use Rattle.qic_base.specs.Tape as tapes
-use Rattle.segment_mending.specs.declared.fault.ScrubFault.TheVariants as fault
+use Rattle.segment_io.specs.declared.fault.StoreFault.TheVariants as fault
 
 -- nothing is counted yet
 abbrev pub none_counted : Counts
 none_counted = record { segments = 0; mended = 0; unreadable = 0 }
 
--- the segments in front were looked at, and then, in the form that this left, those of the volumes
-pub all_looked : {T K : Type 0} {t : tapes.Meaning T} {k : sinks.Meaning K} → TakesBoth k → (depth form : Depth) (words : List ℕ)
-    (entries : List Entry)
-    (a b d : Outside T (Unit {0}) K) (between after : Counts) → form ≡ depth →
-    HasLooked t k depth (whole_segment 0 ∷ whole_segment 1 ∷ whole_segment 2 ∷ []) a b none_counted between →
-    HasLooked t k form (looked_volumes words entries) b d between after →
-    HasLooked t k depth (looked_at words entries) a d none_counted after
-all_looked {t = t} {k = k} both depth form words entries a b d between after same front volumes =
-    looked_both depth both (whole_segment 0 ∷ whole_segment 1 ∷ whole_segment 2 ∷ [])
-    (looked_volumes words entries) a b d none_counted between after front
-    (subst (λ (f : Depth). HasLooked t k f (looked_volumes words entries) b d between after) same volumes)
+-- and nothing done
+abbrev pub not_begun : Depth → Progress
+not_begun depth = record { depth = depth; report = record { segments = 0; mended = 0; unreadable = 0 } }
+
+-- the segments in front were looked at, and then those of the volumes
+pub all_looked : {T K : Type 0} {t : tapes.Meaning T} {k : sinks.Meaning K} → TakesBoth k → (words : List ℕ) (entries : List Entry)
+    (a b d : Outside T (Unit {0}) K) (before between after : Progress) →
+    HasLooked t k (whole_segment 0 ∷ whole_segment 1 ∷ whole_segment 2 ∷ []) a b before between →
+    HasLooked t k (looked_volumes words entries) b d between after → HasLooked t k (looked_at words entries) a d before after
+all_looked both words entries a b d before between after front volumes =
+    looked_both both (whole_segment 0 ∷ whole_segment 1 ∷ whole_segment 2 ∷ []) (looked_volumes words entries) a b d before between after
+    front volumes
 
 counts_equal : (a b : Counts) → a.segments ≡ b.segments → a.mended ≡ b.mended → a.unreadable ≡ b.unreadable → a ≡ b
 counts_equal a b segments mended unreadable =
@@ -56,8 +58,8 @@ counted_all c looked findings acts counts are counted =
     (let e = counted.unreadable in omega arith)
 
 module _ {T K : Type 0} (t : tapes.Meaning T) (k : sinks.Meaning K) (depth : Depth) (words : List ℕ) (entries : List Entry)
-    (a : Outside T (Unit {0}) K) (b : Outside T (Unit {0}) K) (report : ScrubReport)
-    (looked : HasLooked t k depth (looked_at words entries) a b none_counted (reported report)) where
+    (a b : Outside T (Unit {0}) K) (form : Depth) (report : ScrubReport)
+    (looked : HasLooked t k (looked_at words entries) a b (not_begun depth) (record { depth = form; report = report })) where
   scrubs : (c : Cartridge) → FindInTurn depth c (looked_at words entries) looked.findings →
       looked.acts ≡ finding_acts c (looked_at words entries) looked.findings →
       ScrubsAs depth c words entries (looked.acts ++ last_act (reported report) ∷ [])
@@ -181,7 +183,8 @@ module _ {T K : Type 0} (t : tapes.Meaning T) (k : sinks.Meaning K) (depth : Dep
     );
   }
 
-  pub ends_cut : (words : List ℕ) (entries : List Entry) (a b : Outside T (Unit {0}) K) (before after : Counts) (why : ScrubFault) →
-      Looks t k depth (looked_at words entries) a b before after (Err why) → ScrubEnds t k depth words entries a b (Err why)
-  ends_cut words entries a b before after fault.Sink cut = all_cut words entries a b SinkFails cut
-  ends_cut words entries a b before after fault.Tape cut = all_cut words entries a b TapeFails cut
+  pub ends_cut : (words : List ℕ) (entries : List Entry) (a b : Outside T (Unit {0}) K) (after : Progress) (why : StoreFault) →
+      Looks t k (looked_at words entries) a b (not_begun depth) after (Err why) → ScrubEnds t k depth words entries a b (Err why)
+  ends_cut words entries a b after fault.Sink cut = all_cut words entries a b SinkFails cut
+  ends_cut words entries a b after fault.Tape cut = all_cut words entries a b TapeFails cut
+  ends_cut words entries a b after other cut = absurd cut

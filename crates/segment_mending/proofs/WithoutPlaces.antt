@@ -8,7 +8,7 @@ use Rattle.erasure_solve.specs.Lost.{lost_count}
 use Rattle.qic_base.specs.Cartridge.{Cartridge}
 use Rattle.segment_io.proofs.SolvedCells.{count_of_lost}
 use Rattle.segment_io.specs.Gathered.{NamesUnreadable}
-use Rattle.segment_mending.specs.Locating.{DeepFinds, DeepMayFind, HasCount}
+use Rattle.segment_mending.specs.Locating.{DeepFinds, DeepMayFind}
 use Rattle.segment_mending.specs.Searching.{SearchFinds, SearchMayFind, searched_of}
 use Rattle.segment_mending.specs.declared.locating.Found.{Found}
 use Rattle.segment_mending.specs.declared.locating.Found.TheVariants.{Reads, Fails}
@@ -26,10 +26,10 @@ searched_finds c l (Reads places None) sectors is = (is.finds, lost_are c l plac
 searched_finds c l (Reads places (Some sector)) sectors is = is.finds
 searched_finds c l (Fails why) sectors is = is.finds
 
-pub searched_may : (l : Looked) (found : Found) (sectors : List (List ℕ)) → DeepMayFind l found sectors → HasCount found →
+pub searched_may : (l : Looked) (found : Found) (sectors : List (List ℕ)) → DeepMayFind l found sectors →
     SearchMayFind l (searched_of found) sectors
-searched_may l (Reads places None) sectors may count = (may.can_be_read, count)
-searched_may l (Reads places (Some sector)) sectors may count = may.may.1
-searched_may l (Fails NoHeader) sectors may count = (may, tt)
-searched_may l (Fails (Lost n)) sectors may count = (may, count)
-searched_may l (Fails Mismatch) sectors may count = (may, tt)
+searched_may l (Reads places None) sectors may = (may.fits.can_be_read, may.count tt)
+searched_may l (Reads places (Some sector)) sectors may = may.fits.may.1
+searched_may l (Fails NoHeader) sectors may = (may.fits, tt)
+searched_may l (Fails (Lost n)) sectors may = (may.fits, may.count tt)
+searched_may l (Fails Mismatch) sectors may = (may.fits, tt)

@@ -1,11 +1,12 @@
 -- What is found of a segment, and what may be found of it (this project's own).
-use Rattle.std.specs.Prelude.{◌≡◌, ℕ, ◌<◌, ◌≤◌, ◌^◌, List, [], ◌∷◌, take, Option, Some, None, Result, Ok, Err, true, false}
+use Rattle.std.specs.Prelude.{◌≡◌, ℕ, ◌<◌, ◌≤◌, ◌^◌, List, [], ◌∷◌, length, take, Option, Some, None, Result, Ok, Err, true, false}
 use Rattle.cartridge_spec.specs.Code.{IsCodeBlock}
-use Rattle.cartridge_spec.specs.Says.{Saying, Data, LostSectors, unreadable_count}
+use Rattle.cartridge_spec.specs.Says.{Saying, Data, LostSectors, unreadable_count, whole_mask}
 use Rattle.cartridge_laws.specs.Segment.{data_of}
 use Rattle.cartridge_spec.specs.Shape.{usable_count}
-use Rattle.command_spec.specs.Scrub.{Looked, cells_at, reads, Finding, HasFoundBy, IsSearched, without, wrong_line}
+use Rattle.command_spec.specs.Scrub.{Looked, cells_at, reads, Finding, HasFoundBy, without, wrong_line}
 use Rattle.command_spec.specs.declared.depth.Depth.{Depth}
+use Rattle.command_spec.specs.declared.depth.Depth.TheVariants.{Shallow, Deep}
 use Rattle.cartridge_laws.specs.Writes.{named_writes}
 use Rattle.erasure_solve.specs.Lost.{lost_count}
 use Rattle.qic_base.specs.Acts.{Act, Outside, TapeFails, SinkFails, Went, Cut}
@@ -13,7 +14,7 @@ use Rattle.qic_base.specs.Alone.{no_source}
 use Rattle.qic_base.specs.Cartridge.{Cartridge}
 use Rattle.qic_base.specs.declared.tape.SectorView.{SectorView}
 use Rattle.segment_io.specs.Gathered.{NamesUnreadable}
-use Rattle.segment_mending.specs.declared.fault.ScrubFault.{ScrubFault}
+use Rattle.segment_io.specs.declared.fault.StoreFault.{StoreFault}
 use Rattle.segment_mending.specs.declared.locating.Found.{Found}
 use Rattle.segment_mending.specs.declared.locating.Found.TheVariants.{Reads, Fails}
 use Rattle.segment_mending.specs.declared.locating.Unread.{Unread}
@@ -24,7 +25,8 @@ use Rattle.silent_locate.specs.declared.LocateFault.{LocateFault}
 use Rattle.cartridge_spec.specs.Says as saying
 use Rattle.qic_base.specs.Sink as sinks
 use Rattle.qic_base.specs.Tape as tapes
-use Rattle.segment_mending.specs.declared.fault.ScrubFault.TheVariants as cuts
+use Rattle.qic_base.specs.TapeCalls as tape_calls
+use Rattle.segment_io.specs.declared.fault.StoreFault.TheVariants as cuts
 use Rattle.silent_locate.specs.Deep as deep
 use Rattle.silent_locate.specs.declared.LocateFault.TheVariants as fault
 
@@ -39,6 +41,14 @@ Locates cells block (Err (fault.TooMany n)) = (unreadable_count cells ≡ n) × 
 Locates cells block (Err fault.Mismatch) = (unreadable_count cells ≤ 3) × deep.HasNoReading cells
 
 -- ---- a segment, of which the block stands at the first places of a workspace
+
+-- The block stands there, and of its sectors those at these places could not be read.
+pub record HasBlock (l : Looked) (lost : ℕ) (sectors : List (List ℕ)) : Type 0 where
+  pub room : length sectors ≡ 32
+  -- a header copy has no bad sector
+  pub whole : l.segment < 2 → l.mask ≡ whole_mask
+  pub within : lost < 2 ^ usable_count l.mask
+  pub code : IsCodeBlock (take (usable_count l.mask) sectors)
 
 -- it says the block's data
 abbrev pub data_in : Looked → (sectors : List (List ℕ)) → Saying
@@ -64,8 +74,10 @@ pub record IsFoundBy (searched : Type 0) (c : Cartridge) (l : Looked) (found : F
   pub finds : HasFoundBy searched c l (finding_of l found sectors).saying (finding_of l found sectors).wrong
   pub places : NamesPlaces c l found
 
-abbrev pub IsFound : (depth : Depth) → Cartridge → Looked → Found → (sectors : List (List ℕ)) → Type 0
-IsFound depth c l found sectors = IsFoundBy (IsSearched depth l) c l found sectors
+-- a segment is searched, whichever it is
+abbrev pub IsDeep : Depth → Type 0
+IsDeep Shallow = ⊥
+IsDeep Deep = Unit {0}
 
 -- a wrong sector was looked for in it
 abbrev pub DeepFinds : Cartridge → Looked → Found → (sectors : List (List ℕ)) → Type 0
@@ -85,16 +97,9 @@ pub record MayMend (searched : Type 0) (l : Looked) (places : ℕ) (wrong : Opti
   pub can_be_read : reads l (data_in l sectors) ≡ true
   pub may : MayBeWrong searched wrong
 
--- this may be found of a segment, if it is searched
-abbrev pub MayBeBy : (searched : Type 0) → Looked → Found → (sectors : List (List ℕ)) → Type 0
-MayBeBy searched l (Reads places wrong) sectors = MayMend searched l places wrong sectors
-MayBeBy searched l (Fails why) sectors = reads l (unread_saying l why sectors) ≡ false
-
-abbrev pub MayBe : Depth → Looked → Found → (sectors : List (List ℕ)) → Type 0
-MayBe depth l found sectors = MayBeBy (IsSearched depth l) l found sectors
-
-abbrev pub DeepMayFind : Looked → Found → (sectors : List (List ℕ)) → Type 0
-DeepMayFind l found sectors = MayBeBy (Unit {0}) l found sectors
+abbrev pub MayBeIn : (searched : Type 0) → Looked → Found → (sectors : List (List ℕ)) → Type 0
+MayBeIn searched l (Reads places wrong) sectors = MayMend searched l places wrong sectors
+MayBeIn searched l (Fails why) sectors = reads l (unread_saying l why sectors) ≡ false
 
 -- So many sectors can't be read, where a wrong one is looked for and none is found: at most three in a segment that reads.
 abbrev pub HasCount : Found → Type 0
@@ -102,6 +107,20 @@ HasCount (Reads places None) = lost_count places ≤ 3
 HasCount (Reads places (Some sector)) = Unit {0}
 HasCount (Fails (Lost n)) = (3 < n) × (n ≤ 32)
 HasCount (Fails why) = Unit {0}
+
+-- this may be found of a segment, if it is searched
+pub record MayBeBy (searched : Type 0) (l : Looked) (found : Found) (sectors : List (List ℕ)) : Type 0 where
+  pub fits : MayBeIn searched l found sectors
+  pub count : searched → HasCount found
+
+abbrev pub DeepMayFind : Looked → Found → (sectors : List (List ℕ)) → Type 0
+DeepMayFind l found sectors = MayBeBy (Unit {0}) l found sectors
+
+-- this is found of a segment on the cartridge that the tape tells, if it is searched, and may be over any tape
+pub record Finds {T : Type 0} (t : tapes.Meaning T) (tape : T) (searched : Type 0) (l : Looked) (found : Found)
+    (sectors : List (List ℕ)) : Type 0 where
+  pub told : tape_calls.Tells t tape (λ c. IsFoundBy searched c l found sectors)
+  pub may : MayBeBy searched l found sectors
 
 -- ---- what is done
 
@@ -111,7 +130,8 @@ mending l places wrong sectors = record { steps = named_writes l.segment l.mask 
 
 -- an act went, or a fault cut it off
 abbrev pub GoesAs : {T K : Type 0} (t : tapes.Meaning T) (k : sinks.Meaning K) (act : Act) (old new : Outside T (Unit {0}) K) →
-    Result (Unit {0}) ScrubFault → Type 0
+    Result (Unit {0}) StoreFault → Type 0
 GoesAs t k act old new (Ok done) = Went t no_source k old new (act ∷ [])
 GoesAs t k act old new (Err cuts.Sink) = Cut t no_source k old new (act ∷ []) SinkFails
 GoesAs t k act old new (Err cuts.Tape) = Cut t no_source k old new (act ∷ []) TapeFails
+GoesAs t k act old new (Err other) = ⊥

@@ -7,8 +7,10 @@ use Rattle.qic_base.specs.Acts.{Act, steps_of, text_of, Outside, Failing, TapeFa
 use Rattle.qic_base.specs.Alone.{no_source}
 use Rattle.command_spec.specs.Scrub.{Looked, Counts, unread_count, Finding, FindInTurn, MayBeFound, finding_acts, lines_for, sayings_of}
 use Rattle.command_spec.specs.declared.depth.Depth.{Depth}
-use Rattle.segment_mending.specs.declared.fault.ScrubFault.{ScrubFault}
-use Rattle.segment_mending.specs.declared.fault.ScrubFault.TheVariants as fault
+use Rattle.segment_io.specs.declared.fault.StoreFault.{StoreFault}
+use Rattle.segment_mending.specs.Mending.{reported}
+use Rattle.segment_mending.specs.declared.progress.Progress.{Progress}
+use Rattle.segment_io.specs.declared.fault.StoreFault.TheVariants as fault
 
 -- This is found of these segments, on the cartridge that the tape tells, and these are their acts; over any tape the acts
 -- print what belongs to these findings.
@@ -26,14 +28,15 @@ pub record Counted (looked : List Looked) (findings : List Finding) (acts : List
   -- a segment has 32 sectors
   pub few : length (steps_of acts) ≤ 32 * length looked
 
--- All segments were looked at: their acts went, and were counted.
-pub record HasLooked {T K : Type 0} (t : tapes.Meaning T) (k : sinks.Meaning K) (depth : Depth) (looked : List Looked)
-    (old new : Outside T (Unit {0}) K) (before after : Counts) : Type 0 where
+-- All segments were looked at in the form of the scrubbing: their acts went, and were counted.
+pub record HasLooked {T K : Type 0} (t : tapes.Meaning T) (k : sinks.Meaning K) (looked : List Looked)
+    (old new : Outside T (Unit {0}) K) (before after : Progress) : Type 0 where
   pub findings : List Finding
   pub acts : List Act
-  pub are : AreActs t old.tape depth looked findings acts
+  pub are : AreActs t old.tape before.depth looked findings acts
   pub went : Went t no_source k old new acts
-  pub counted : Counted looked findings acts before after
+  pub counted : Counted looked findings acts (reported before.report) (reported after.report)
+  pub depth : after.depth ≡ before.depth
 
 -- A fault of the tape or of the sink cut the acts off.
 pub record LookingCut {T K : Type 0} (t : tapes.Meaning T) (k : sinks.Meaning K) (depth : Depth) (looked : List Looked)
@@ -47,11 +50,12 @@ pub record LookingCut {T K : Type 0} (t : tapes.Meaning T) (k : sinks.Meaning K)
   pub text : text_of acts ≡ lines_for looked findings
   pub cut : Cut t no_source k old new acts failing
 
-abbrev pub Looks : {T K : Type 0} (t : tapes.Meaning T) (k : sinks.Meaning K) (depth : Depth) (looked : List Looked)
-    (old new : Outside T (Unit {0}) K) (before after : Counts) → Result (Unit {0}) ScrubFault → Type 0
-Looks t k depth looked old new before after (Ok done) = HasLooked t k depth looked old new before after
-Looks t k depth looked old new before after (Err fault.Sink) = LookingCut t k depth looked old new SinkFails
-Looks t k depth looked old new before after (Err fault.Tape) = LookingCut t k depth looked old new TapeFails
+abbrev pub Looks : {T K : Type 0} (t : tapes.Meaning T) (k : sinks.Meaning K) (looked : List Looked)
+    (old new : Outside T (Unit {0}) K) (before after : Progress) → Result (Unit {0}) StoreFault → Type 0
+Looks t k looked old new before after (Ok done) = HasLooked t k looked old new before after
+Looks t k looked old new before after (Err fault.Sink) = LookingCut t k before.depth looked old new SinkFails
+Looks t k looked old new before after (Err fault.Tape) = LookingCut t k before.depth looked old new TapeFails
+Looks t k looked old new before after (Err other) = ⊥
 
 -- no more segments than this were counted, of each at most 32 sectors
 pub record HasFew (most : ℕ) (counts : Counts) : Type 0 where

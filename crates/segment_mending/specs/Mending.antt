@@ -6,12 +6,12 @@ use Rattle.command_laws.specs.ScrubTerms.{counts_for}
 use Rattle.command_spec.specs.declared.depth.Depth.{Depth}
 use Rattle.qic_base.specs.Acts.{Act, text_of, Outside, Went, Failing, Cut, TapeFails, SinkFails}
 use Rattle.qic_base.specs.Alone.{no_source}
-use Rattle.segment_mending.specs.declared.fault.ScrubFault.{ScrubFault}
+use Rattle.segment_io.specs.declared.fault.StoreFault.{StoreFault}
 use Rattle.segment_mending.specs.declared.report.ScrubReport.{ScrubReport}
 use Rattle.qic_base.specs.Sink as sinks
 use Rattle.qic_base.specs.Tape as tapes
 use Rattle.qic_base.specs.TapeCalls as tape_calls
-use Rattle.segment_mending.specs.declared.fault.ScrubFault.TheVariants as fault
+use Rattle.segment_io.specs.declared.fault.StoreFault.TheVariants as fault
 
 -- the counts that a report tells
 abbrev pub reported : ScrubReport → Counts
@@ -39,7 +39,8 @@ pub record ScrubCut {T K : Type 0} (t : tapes.Meaning T) (k : sinks.Meaning K) (
   pub front : (rest : List ℕ) × IsTextFor depth (looked_at words entries) counts (text_of acts ++ rest)
 
 abbrev pub ScrubEnds : {T K : Type 0} (t : tapes.Meaning T) (k : sinks.Meaning K) (depth : Depth) (words : List ℕ) (entries : List Entry)
-    (old new : Outside T (Unit {0}) K) → Result ScrubReport ScrubFault → Type 0
+    (old new : Outside T (Unit {0}) K) → Result ScrubReport StoreFault → Type 0
 ScrubEnds t k depth words entries old new (Ok report) = HasScrubbed t k depth words entries old new report
 ScrubEnds t k depth words entries old new (Err fault.Sink) = ScrubCut t k depth words entries old new SinkFails
 ScrubEnds t k depth words entries old new (Err fault.Tape) = ScrubCut t k depth words entries old new TapeFails
+ScrubEnds t k depth words entries old new (Err other) = ⊥

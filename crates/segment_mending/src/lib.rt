@@ -2,7 +2,6 @@
 //! they can be found. No call takes memory.
 #![tactic(auto)]
 
-mod fault;
 mod lines;
 mod locating;
 mod looking;
@@ -13,7 +12,6 @@ mod scrubbing;
 mod searching;
 mod volumes;
 
-pub use fault::ScrubFault;
 pub use locating::Unread;
 pub use report::ScrubReport;
 pub use scrubbing::scrub_segments;

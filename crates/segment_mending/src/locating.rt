@@ -1,36 +1,32 @@
 //! One segment read, and what is found of it.
 
-ghost use Rattle.std.specs.Prelude.{◌≡◌, ◌<◌, ◌≤◌, ◌^◌, ℕ, [], true, length, take, Some, None, IfOk, IsOkUnless};
+ghost use Rattle.std.specs.Prelude.{◌≡◌, ◌<◌, ◌≤◌, ◌^◌, ℕ, [], true, length, take, Some, None, IfOk};
 ghost use Rattle.qic_base.specs.Cartridge.{Cartridge};
-ghost use Rattle.qic_base.specs.TapeCalls.{Does, Tells};
+ghost use Rattle.qic_base.specs.TapeCalls.{Does};
 ghost use Rattle.cartridge_laws.specs.Shape.{Carries};
-ghost use Rattle.cartridge_spec.specs.Code.{IsCodeBlock};
 ghost use Rattle.cartridge_spec.specs.Header.{has_signature};
 ghost use Rattle.cartridge_spec.specs.Says.{cells_of, whole_mask};
 ghost use Rattle.cartridge_laws.specs.Segment.{data_of};
 ghost use Rattle.erasure_solve.specs.Lost.{lost_count};
 ghost use Rattle.cartridge_spec.specs.Shape.{usable_count};
-ghost use Rattle.command_spec.specs.Scrub.{IsSearched, reads};
+ghost use Rattle.command_spec.specs.Scrub.{reads};
 ghost use Rattle.command_spec.specs.declared.depth.Depth.{Depth};
 ghost use Rattle.drive_states.specs.Reach.{reads_in};
 ghost use Rattle.host_driver.specs.Calls.{IsReady, Keeps};
 ghost use Rattle.segment_io.specs.Calls.{HasSegment};
 ghost use Rattle.segment_io.specs.Gathered.{Gathered, NamesUnreadable};
-ghost use Rattle.segment_mending.specs.Locating.{Locates, data_in, IsFound, DeepFinds, MayBe, DeepMayFind, HasCount};
-ghost use Rattle.command_spec.specs.declared.depth.Depth.TheVariants as depths;
+ghost use Rattle.segment_mending.specs.Locating.{Locates, data_in, HasBlock, IsDeep, Finds, IsFoundBy, MayBeBy, DeepFinds, DeepMayFind};
 ghost use Rattle.silent_locate.specs.Deep as deep;
 
 use crate::HEADER_COPIES;
-use crate::fault::ScrubFault;
 use bad_sector_map::index_at;
 use command_spec::Depth;
 use drive_states::Unit;
 use header_segments::SIGNATURE;
 use host_driver::Host;
-use qic_base::{LostSet, Sector, Tape, read_u32};
+use qic_base::{LostSet, Sector, Tape, TapeFailed, read_u32};
 use segment_io::{SegFault, Workspace, collect, read_segment};
 use silent_locate::{LocateFault, Located, locate};
-use volume_table::TABLE_SEGMENT;
 
 /// What is found of a segment. A place counts from 0 among its usable sectors, an index among its 32.
 #[derive(Clone, Copy)]
@@ -53,7 +49,7 @@ pub enum Unread {
 }
 
 /// Reads a segment, and makes the first sectors of the workspace its block where it has one. A wrong sector is looked for
-/// where the form is deep and the segment isn't that of the volume table.
+/// where the form is deep, whichever segment it is.
 pub(crate) fn find_in_segment<T: Tape>(
     host: &mut Host,
     unit: &mut Unit<T>,
@@ -61,99 +57,28 @@ pub(crate) fn find_in_segment<T: Tape>(
     segment: u32,
     usable: u32,
     work: &mut Workspace,
-) -> Result<Found, ScrubFault>
+) -> Result<Found, TapeFailed>
     requires ready { IsReady T.means host.old unit.old }
     requires segment { HasSegment unit.old.drive.deck segment usable }
     requires mode { reads_in unit.old.drive.deck.mode ≡ true }
     requires whole { segment < 2 → usable ≡ whole_mask }
     ensures did { Does T.means unit.old.tape unit.new.tape [] result }
-    ensures fault { IsOkUnless result ScrubFault.Tape }
-    ensures found { IfOk result (λ found. Tells T.means unit.old.tape (λ c.
-        IsFound depth c (record { segment = segment; mask = usable }) found work.new)) }
-    // And where the tape tells nothing:
-    ensures may { IfOk result (λ found.
-        MayBe depth (record { segment = segment; mask = usable }) found work.new) }
+    ensures found { IfOk result (λ found. Finds T.means unit.old.tape (IsDeep depth)
+        (record { segment = segment; mask = usable }) found work.new) }
     ensures room { length work.new ≡ 32 }
     ensures keeps { Keeps T.means host.new unit.old unit.new }
-{
-    if is_searched(depth, segment) {
-        find_deep(host, unit, segment, usable, work)
-    } else {
-        find_shallow(host, unit, segment, usable, work)
-    }
-}
-
-/// Whether a wrong sector of a segment is looked for.
-fn is_searched(depth: Depth, segment: u32) -> bool
-    ensures yes { (usable : ℕ) → result ≡ true →
-        IsSearched depth (record { segment = segment; mask = usable }) }
-    ensures no { (usable : ℕ) → IsSearched depth (record { segment = segment; mask = usable }) →
-        result ≡ true }
 {
     match depth {
-        Depth::Deep => segment != TABLE_SEGMENT,
-        Depth::Shallow => false,
-    }
-}
-
-/// As `find_in_segment`, without looking for a wrong sector.
-fn find_shallow<T: Tape>(
-    host: &mut Host,
-    unit: &mut Unit<T>,
-    segment: u32,
-    usable: u32,
-    work: &mut Workspace,
-) -> Result<Found, ScrubFault>
-    requires ready { IsReady T.means host.old unit.old }
-    requires segment { HasSegment unit.old.drive.deck segment usable }
-    requires mode { reads_in unit.old.drive.deck.mode ≡ true }
-    requires whole { segment < 2 → usable ≡ whole_mask }
-    ensures did { Does T.means unit.old.tape unit.new.tape [] result }
-    ensures fault { IsOkUnless result ScrubFault.Tape }
-    ensures found { IfOk result (λ found. Tells T.means unit.old.tape (λ c.
-        IsFound depths.Shallow c (record { segment = segment; mask = usable }) found work.new)) }
-    ensures may { IfOk result (λ found.
-        MayBe depths.Shallow (record { segment = segment; mask = usable }) found work.new) }
-    ensures room { length work.new ≡ 32 }
-    ensures keeps { Keeps T.means host.new unit.old unit.new }
-{
-    match read_segment(host, unit, segment, usable, work) {
-        Ok(lost) => Ok(found_block(segment, usable, lost, work)),
-        Err(SegFault::Lost { lost, .. }) => Ok(Found::Fails(Unread::Lost(lost))),
-        Err(SegFault::Mismatch { .. }) => Ok(Found::Fails(Unread::Mismatch)),
-        Err(SegFault::Tape) => Err(ScrubFault::Tape),
-    }
-}
-
-/// As `find_in_segment`, with a look for a wrong sector, whichever segment it is.
-pub(crate) fn find_deep<T: Tape>(
-    host: &mut Host,
-    unit: &mut Unit<T>,
-    segment: u32,
-    usable: u32,
-    work: &mut Workspace,
-) -> Result<Found, ScrubFault>
-    requires ready { IsReady T.means host.old unit.old }
-    requires segment { HasSegment unit.old.drive.deck segment usable }
-    requires mode { reads_in unit.old.drive.deck.mode ≡ true }
-    requires whole { segment < 2 → usable ≡ whole_mask }
-    ensures did { Does T.means unit.old.tape unit.new.tape [] result }
-    ensures fault { IsOkUnless result ScrubFault.Tape }
-    ensures found { IfOk result (λ found. Tells T.means unit.old.tape (λ c.
-        DeepFinds c (record { segment = segment; mask = usable }) found work.new)) }
-    // And where the tape tells nothing:
-    ensures may { IfOk result (λ found.
-        DeepMayFind (record { segment = segment; mask = usable }) found work.new) }
-    ensures count { IfOk result (λ found. HasCount found) }
-    ensures room { length work.new ≡ 32 }
-    ensures keeps { Keeps T.means host.new unit.old unit.new }
-{
-    match collect(host, unit, segment, usable, work) {
-        Ok(lost) => Ok(locate_collected(segment, usable, lost, work)),
-        Err(SegFault::Tape) => Err(ScrubFault::Tape),
-        Err(SegFault::Lost { .. } | SegFault::Mismatch { .. }) => {
-            unreachable!("collecting solves nothing")
+        Depth::Deep => {
+            let lost = collect(host, unit, segment, usable, work)?;
+            Ok(locate_collected(segment, usable, lost, work))
         }
+        Depth::Shallow => match read_segment(host, unit, segment, usable, work) {
+            Ok(lost) => Ok(found_block(segment, usable, lost, work)),
+            Err(SegFault::Lost { lost, .. }) => Ok(Found::Fails(Unread::Lost(lost))),
+            Err(SegFault::Mismatch { .. }) => Ok(Found::Fails(Unread::Mismatch)),
+            Err(SegFault::Tape) => Err(TapeFailed),
+        },
     }
 }
 
@@ -167,7 +92,6 @@ fn locate_collected(segment: u32, usable: u32, lost: LostSet, work: &mut Workspa
         DeepFinds c (record { segment = segment; mask = usable }) result work.new }
     // And where nothing is known of the cells:
     ensures may { DeepMayFind (record { segment = segment; mask = usable }) result work.new }
-    ensures count { HasCount result }
     ensures room { length work.new ≡ 32 }
 {
     match locate_in(usable, lost, work) {
@@ -204,21 +128,13 @@ fn locate_first(sectors: &mut [Sector], count: u8, lost: LostSet) -> Result<Loca
 
 /// What is found of a segment whose block stands in the workspace, where all sectors that could be read agree with it.
 fn found_block(segment: u32, usable: u32, lost: LostSet, work: &Workspace) -> Found
-    requires room { length work.now ≡ 32 }
-    requires whole { segment < 2 → usable ≡ whole_mask }
-    requires within { lost < 2 ^ usable_count usable }
-    requires code { IsCodeBlock (take (usable_count usable) work.now) }
+    requires block { HasBlock (record { segment = segment; mask = usable }) lost work.now }
     ensures found { (depth : Depth) (c : Cartridge) →
         NamesUnreadable (cells_of c segment usable) lost →
         deep.Deep (cells_of c segment usable) (take (usable_count usable) work.now) None →
-        IsFound depth c (record { segment = segment; mask = usable }) result work.now }
-    ensures searched { (c : Cartridge) → NamesUnreadable (cells_of c segment usable) lost →
-        deep.Deep (cells_of c segment usable) (take (usable_count usable) work.now) None →
-        DeepFinds c (record { segment = segment; mask = usable }) result work.now }
-    ensures may { (depth : Depth) →
-        MayBe depth (record { segment = segment; mask = usable }) result work.now }
-    ensures may_by { DeepMayFind (record { segment = segment; mask = usable }) result work.now }
-    ensures count { lost_count lost ≤ 3 → HasCount result }
+        IsFoundBy (IsDeep depth) c (record { segment = segment; mask = usable }) result work.now }
+    ensures may { (depth : Depth) → (IsDeep depth → lost_count lost ≤ 3) →
+        MayBeBy (IsDeep depth) (record { segment = segment; mask = usable }) result work.now }
 {
     if can_be_read(segment, work) {
         Found::Reads {
@@ -233,16 +149,12 @@ fn found_block(segment: u32, usable: u32, lost: LostSet, work: &Workspace) -> Fo
 /// What is found of a segment whose block stands in the workspace, where the sector at one place could be read and does
 /// not agree with it. A header copy is no such segment where the block begins with no header's signature.
 fn found_wrong(segment: u32, usable: u32, lost: LostSet, place: u8, work: &Workspace) -> Found
-    requires room { length work.now ≡ 32 }
-    requires whole { segment < 2 → usable ≡ whole_mask }
-    requires within { lost < 2 ^ usable_count usable }
+    requires block { HasBlock (record { segment = segment; mask = usable }) lost work.now }
     requires place { place < usable_count usable }
-    requires code { IsCodeBlock (take (usable_count usable) work.now) }
     ensures found { (c : Cartridge) → NamesUnreadable (cells_of c segment usable) lost →
         deep.Deep (cells_of c segment usable) (take (usable_count usable) work.now) (Some place) →
         DeepFinds c (record { segment = segment; mask = usable }) result work.now }
     ensures may { DeepMayFind (record { segment = segment; mask = usable }) result work.now }
-    ensures count { HasCount result }
 {
     if !can_be_read(segment, work) {
         return Found::Fails(Unread::Mismatch);

@@ -1,75 +1,39 @@
 //! One segment looked at.
 
-ghost use Rattle.std.specs.Prelude.{◌≡◌, ◌<◌, ◌≤◌, ◌^◌, [], ◌∷◌, true};
+ghost use Rattle.std.specs.Prelude.{◌≡◌, ◌↔◌, ◌<◌, ◌^◌, ℕ, [], ◌∷◌};
 ghost use Rattle.qic_base.specs.Alone.{around};
 ghost use Rattle.cartridge_spec.specs.Says.{whole_mask};
-ghost use Rattle.drive_spec.specs.Terms.{is_referenced};
 ghost use Rattle.host_driver.specs.Calls.{IsReady, MayWrite, Keeps};
-ghost use Rattle.command_spec.specs.Scrub.{whole_segment};
+ghost use Rattle.command_spec.specs.Scrub.{IsSearched};
 ghost use Rattle.segment_io.specs.Calls.{HasSegment};
+ghost use Rattle.segment_mending.specs.Locating.{IsDeep};
 ghost use Rattle.segment_mending.specs.Looking.{HasFew, Looks};
 ghost use Rattle.segment_mending.specs.Mending.{reported};
 
-use crate::fault::ScrubFault;
 use crate::lines::unread_text;
 use crate::locating::{Found, find_in_segment};
 use crate::mending::{mend, pass_over};
 use crate::progress::Progress;
+use command_spec::Depth;
 use drive_states::Unit;
 use host_driver::Host;
-use qic_base::{Sink, Tape, WHOLE};
-use segment_io::Workspace;
+use qic_base::{Sink, Tape};
+use segment_io::{StoreFault, Workspace};
+use volume_table::TABLE_SEGMENT;
 
-/// Looks at a header copy, 0 or 1.
-pub(crate) fn look_at_copy<T: Tape, K: Sink>(
-    host: &mut Host,
-    unit: &mut Unit<T>,
-    copy: u32,
-    work: &mut Workspace,
-    sink: &mut K,
-    progress: &mut Progress,
-) -> Result<(), ScrubFault>
-    requires ready { IsReady T.means host.old unit.old }
-    requires referenced { is_referenced unit.old.drive.deck ≡ true }
-    requires writable { MayWrite unit.old.drive.deck }
-    requires copy { copy < 2 }
-    requires few { HasFew (2 ^ 26) (reported progress.old.report) }
-    ensures looks { Looks T.means K.means progress.old.depth (whole_segment copy ∷ [])
-        (around unit.old.tape sink.old) (around unit.new.tape sink.new)
-        (reported progress.old.report) (reported progress.new.report) result }
-    ensures depth { progress.new.depth ≡ progress.old.depth }
-    ensures keeps { Keeps T.means host.new unit.old unit.new }
+/// The form in which a segment is read: no wrong sector is looked for in that of the volume table.
+fn form_of(depth: Depth, segment: u32) -> Depth
+    ensures { (usable : ℕ) → IsDeep result ↔
+        IsSearched depth (record { segment = segment; mask = usable }) }
 {
-    look_at(host, unit, copy, WHOLE, work, sink, progress)
-}
-
-/// Looks at a segment that holds no header copy.
-pub(crate) fn look_at_segment<T: Tape, K: Sink>(
-    host: &mut Host,
-    unit: &mut Unit<T>,
-    segment: u32,
-    usable: u32,
-    work: &mut Workspace,
-    sink: &mut K,
-    progress: &mut Progress,
-) -> Result<(), ScrubFault>
-    requires ready { IsReady T.means host.old unit.old }
-    requires segment { HasSegment unit.old.drive.deck segment usable }
-    requires writable { MayWrite unit.old.drive.deck }
-    requires behind { 2 ≤ segment }
-    requires few { HasFew (2 ^ 26) (reported progress.old.report) }
-    ensures looks { Looks T.means K.means progress.old.depth
-        (record { segment = segment; mask = usable } ∷ [])
-        (around unit.old.tape sink.old) (around unit.new.tape sink.new)
-        (reported progress.old.report) (reported progress.new.report) result }
-    ensures depth { progress.new.depth ≡ progress.old.depth }
-    ensures keeps { Keeps T.means host.new unit.old unit.new }
-{
-    look_at(host, unit, segment, usable, work, sink, progress)
+    match depth {
+        Depth::Deep if segment != TABLE_SEGMENT => Depth::Deep,
+        _ => Depth::Shallow,
+    }
 }
 
 /// Looks at a segment; a header copy has no bad sector.
-fn look_at<T: Tape, K: Sink>(
+pub(crate) fn look_at<T: Tape, K: Sink>(
     host: &mut Host,
     unit: &mut Unit<T>,
     segment: u32,
@@ -77,25 +41,26 @@ fn look_at<T: Tape, K: Sink>(
     work: &mut Workspace,
     sink: &mut K,
     progress: &mut Progress,
-) -> Result<(), ScrubFault>
+) -> Result<(), StoreFault>
     requires ready { IsReady T.means host.old unit.old }
     requires segment { HasSegment unit.old.drive.deck segment usable }
     requires writable { MayWrite unit.old.drive.deck }
     requires whole { segment < 2 → usable ≡ whole_mask }
     requires few { HasFew (2 ^ 26) (reported progress.old.report) }
-    ensures looks { Looks T.means K.means progress.old.depth
-        (record { segment = segment; mask = usable } ∷ [])
+    ensures looks { Looks T.means K.means (record { segment = segment; mask = usable } ∷ [])
         (around unit.old.tape sink.old) (around unit.new.tape sink.new)
-        (reported progress.old.report) (reported progress.new.report) result }
-    ensures depth { progress.new.depth ≡ progress.old.depth }
+        progress.old progress.new result }
     ensures keeps { Keeps T.means host.new unit.old unit.new }
 {
-    let found = find_in_segment(host, unit, progress.depth, segment, usable, work)?;
-    match found {
+    let form = form_of(progress.depth, segment);
+    match find_in_segment(host, unit, form, segment, usable, work)? {
         Found::Reads { places, wrong } => {
             progress.report.count_mended(places.count());
             mend(host, unit, segment, usable, places, wrong, work, sink)
         }
-        Found::Fails(why) => pass_over(&unread_text(segment, why), sink, &mut progress.report),
+        Found::Fails(why) => {
+            pass_over(&unread_text(segment, why), sink, &mut progress.report)?;
+            Ok(())
+        }
     }
 }

@@ -1,6 +1,6 @@
 //! What is done in one segment that was read.
 
-ghost use Rattle.std.specs.Prelude.{◌≡◌, ◌<◌, ◌^◌, OnOk, IsOkUnless};
+ghost use Rattle.std.specs.Prelude.{◌≡◌, ◌<◌, ◌^◌, OnOk};
 ghost use Rattle.qic_base.specs.Alone.{around};
 ghost use Rattle.qic_base.specs.SinkCalls.{Writes};
 ghost use Rattle.qic_base.specs.TapeCalls.{Does};
@@ -13,13 +13,12 @@ ghost use Rattle.segment_mending.specs.Locating.{mending, GoesAs};
 ghost use Rattle.segment_mending.specs.Looking.{HasFew, with_unread};
 ghost use Rattle.segment_mending.specs.Mending.{reported};
 
-use crate::fault::ScrubFault;
 use crate::lines::wrong_text;
 use crate::report::ScrubReport;
 use drive_states::Unit;
 use host_driver::Host;
-use qic_base::{LostSet, Sink, SinkFailed, Tape, write_text};
-use segment_io::{SegFault, Workspace, write_sectors};
+use qic_base::{LostSet, Sink, SinkFailed, Tape, TapeFailed, write_text};
+use segment_io::{StoreFault, Workspace, write_sectors};
 use tape_script::TextLine;
 
 /// Writes the sectors at the lost places again. Where there are none, the tape stays where it is.
@@ -30,39 +29,28 @@ fn write_lost<T: Tape>(
     usable: u32,
     lost: LostSet,
     work: &Workspace,
-) -> Result<(), ScrubFault>
+) -> Result<(), TapeFailed>
     requires ready { IsReady T.means host.old unit.old }
     requires segment { HasSegment unit.old.drive.deck segment usable }
     requires writable { MayWrite unit.old.drive.deck }
     requires within { lost < 2 ^ usable_count usable }
     ensures did { Does T.means unit.old.tape unit.new.tape
         (named_writes segment usable lost work.now) result }
-    ensures fault { IsOkUnless result ScrubFault.Tape }
     ensures keeps { Keeps T.means host.new unit.old unit.new }
 {
     if lost.mask() == 0 {
         return Ok(());
     }
-    match write_sectors(host, unit, segment, usable, lost, work) {
-        Ok(()) => Ok(()),
-        Err(SegFault::Tape) => Err(ScrubFault::Tape),
-        Err(SegFault::Lost { .. } | SegFault::Mismatch { .. }) => {
-            unreachable!("a write reads nothing")
-        }
-    }
+    write_sectors(host, unit, segment, usable, lost, work)
 }
 
 /// Prints the line of the sector with this index, where one is wrong.
-fn tell_wrong<K: Sink>(segment: u32, wrong: Option<u8>, sink: &mut K) -> Result<(), ScrubFault>
-    ensures wrote { Writes K.means sink.old sink.new (wrong_line segment wrong) result }
-    ensures fault { IsOkUnless result ScrubFault.Sink }
+fn tell_wrong<K: Sink>(segment: u32, wrong: Option<u8>, sink: &mut K) -> Result<(), SinkFailed>
+    ensures { Writes K.means sink.old sink.new (wrong_line segment wrong) result }
 {
-    let Some(sector) = wrong else {
-        return Ok(());
-    };
-    match write_text(wrong_text(segment, sector).bytes(), sink) {
-        Ok(()) => Ok(()),
-        Err(SinkFailed) => Err(ScrubFault::Sink),
+    match wrong {
+        Some(sector) => write_text(wrong_text(segment, sector).bytes(), sink),
+        None => Ok(()),
     }
 }
 
@@ -76,7 +64,7 @@ pub(crate) fn mend<T: Tape, K: Sink>(
     wrong: Option<u8>,
     work: &Workspace,
     sink: &mut K,
-) -> Result<(), ScrubFault>
+) -> Result<(), StoreFault>
     requires ready { IsReady T.means host.old unit.old }
     requires segment { HasSegment unit.old.drive.deck segment usable }
     requires writable { MayWrite unit.old.drive.deck }
@@ -87,7 +75,8 @@ pub(crate) fn mend<T: Tape, K: Sink>(
     ensures keeps { Keeps T.means host.new unit.old unit.new }
 {
     write_lost(host, unit, segment, usable, lost, work)?;
-    tell_wrong(segment, wrong, sink)
+    tell_wrong(segment, wrong, sink)?;
+    Ok(())
 }
 
 /// Prints the line of a segment that does not read, and counts it.
@@ -95,17 +84,12 @@ pub(crate) fn pass_over<K: Sink>(
     line: &TextLine,
     sink: &mut K,
     report: &mut ScrubReport,
-) -> Result<(), ScrubFault>
+) -> Result<(), SinkFailed>
     requires few { HasFew (2 ^ 26) (reported report.old) }
     ensures wrote { Writes K.means sink.old sink.new line.now result }
-    ensures fault { IsOkUnless result ScrubFault.Sink }
     ensures counted { OnOk result (reported report.new ≡ with_unread (reported report.old)) }
 {
-    match write_text(line.bytes(), sink) {
-        Ok(()) => {
-            report.count_unreadable();
-            Ok(())
-        }
-        Err(SinkFailed) => Err(ScrubFault::Sink),
-    }
+    write_text(line.bytes(), sink)?;
+    report.count_unreadable();
+    Ok(())
 }

@@ -1,6 +1,6 @@
 //! All segments of a cartridge that hold something, one by one.
 
-ghost use Rattle.std.specs.Prelude.{◌≡◌, ◌-◌, ◌*◌, ◌∷◌, [], true, length, OnOk};
+ghost use Rattle.std.specs.Prelude.{◌≡◌, ◌-◌, ◌*◌, ◌∷◌, [], true, length};
 ghost use Rattle.qic_base.specs.Alone.{around};
 ghost use Rattle.cartridge_laws.specs.Table.{IsSoundList};
 ghost use Rattle.drive_spec.specs.Terms.{is_referenced};
@@ -10,9 +10,8 @@ ghost use Rattle.command_spec.specs.Scrub.{whole_segment};
 ghost use Rattle.segment_mending.specs.Looking.{HasFew, Looks};
 ghost use Rattle.segment_mending.specs.Mending.{ScrubEnds, reported};
 
-use crate::fault::ScrubFault;
 use crate::lines::counts_text;
-use crate::looking::{look_at_copy, look_at_segment};
+use crate::looking::look_at;
 use crate::progress::Progress;
 use crate::report::ScrubReport;
 use crate::volumes::look_at_volumes;
@@ -20,8 +19,8 @@ use bad_sector_map::BadMap;
 use command_spec::Depth;
 use drive_states::Unit;
 use host_driver::Host;
-use qic_base::{Sink, SinkFailed, Tape, WHOLE, write_text};
-use segment_io::Workspace;
+use qic_base::{Sink, Tape, WHOLE, write_text};
+use segment_io::{StoreFault, Workspace};
 use volume_table::{TABLE_SEGMENT, Table};
 
 /// Looks at both header copies and the table's segment.
@@ -31,22 +30,20 @@ fn look_at_front<T: Tape, K: Sink>(
     work: &mut Workspace,
     sink: &mut K,
     progress: &mut Progress,
-) -> Result<(), ScrubFault>
+) -> Result<(), StoreFault>
     requires ready { IsReady T.means host.old unit.old }
     requires referenced { is_referenced unit.old.drive.deck ≡ true }
     requires writable { MayWrite unit.old.drive.deck }
     requires few { HasFew 0 (reported progress.old.report) }
-    ensures looks { Looks T.means K.means progress.old.depth
+    ensures looks { Looks T.means K.means
         (whole_segment 0 ∷ whole_segment 1 ∷ whole_segment 2 ∷ [])
         (around unit.old.tape sink.old) (around unit.new.tape sink.new)
-        (reported progress.old.report) (reported progress.new.report) result }
-    ensures few { OnOk result (HasFew 3 (reported progress.new.report)) }
-    ensures depth { progress.new.depth ≡ progress.old.depth }
+        progress.old progress.new result }
     ensures keeps { Keeps T.means host.new unit.old unit.new }
 {
-    look_at_copy(host, unit, 0, work, sink, progress)?;
-    look_at_copy(host, unit, 1, work, sink, progress)?;
-    look_at_segment(host, unit, TABLE_SEGMENT, WHOLE, work, sink, progress)
+    look_at(host, unit, 0, WHOLE, work, sink, progress)?;
+    look_at(host, unit, 1, WHOLE, work, sink, progress)?;
+    look_at(host, unit, TABLE_SEGMENT, WHOLE, work, sink, progress)
 }
 
 /// Looks at both header copies, the table's segment and the carrying segments of all volumes, ascending. In each that
@@ -61,7 +58,7 @@ pub fn scrub_segments<T: Tape, K: Sink>(
     table: &Table,
     work: &mut Workspace,
     sink: &mut K,
-) -> Result<ScrubReport, ScrubFault>
+) -> Result<ScrubReport, StoreFault>
     requires ready { IsReady T.means host.old unit.old }
     requires referenced { is_referenced unit.old.drive.deck ≡ true }
     requires writable { MayWrite unit.old.drive.deck }
@@ -79,8 +76,6 @@ pub fn scrub_segments<T: Tape, K: Sink>(
     let mut progress = Progress { depth, report };
     look_at_front(host, unit, work, sink, &mut progress)?;
     look_at_volumes(host, unit, map, table, work, sink, &mut progress)?;
-    match write_text(counts_text(progress.report).bytes(), sink) {
-        Ok(()) => Ok(progress.report),
-        Err(SinkFailed) => Err(ScrubFault::Sink),
-    }
+    write_text(counts_text(progress.report).bytes(), sink)?;
+    Ok(progress.report)
 }

@@ -1,6 +1,6 @@
 //! One segment searched for a wrong sector, and nothing of it written.
 
-ghost use Rattle.std.specs.Prelude.{◌≡◌, ◌<◌, [], true, length, IfOk, IsOkUnless};
+ghost use Rattle.std.specs.Prelude.{◌≡◌, ◌<◌, [], true, length, IfOk};
 ghost use Rattle.qic_base.specs.TapeCalls.{Does, Tells};
 ghost use Rattle.cartridge_spec.specs.Says.{whole_mask};
 ghost use Rattle.drive_states.specs.Reach.{reads_in};
@@ -8,11 +8,11 @@ ghost use Rattle.host_driver.specs.Calls.{IsReady, Keeps};
 ghost use Rattle.segment_io.specs.Calls.{HasSegment};
 ghost use Rattle.segment_mending.specs.Searching.{SearchFinds, SearchMayFind, searched_of};
 
-use crate::fault::ScrubFault;
-use crate::locating::{Found, Unread, find_deep};
+use crate::locating::{Found, Unread, find_in_segment};
+use command_spec::Depth;
 use drive_states::Unit;
 use host_driver::Host;
-use qic_base::Tape;
+use qic_base::{Tape, TapeFailed};
 use segment_io::Workspace;
 
 /// What a search for a wrong sector finds of a segment.
@@ -42,21 +42,19 @@ fn without_places(found: Found) -> Searched
 }
 
 /// Reads a segment, counted from 0, of which bit `i` of `usable` stands for sector `i`, and looks for a wrong sector in
-/// it, whichever segment it is. The first sectors of the workspace become its block where it has one. The only fault is
-/// the tape's.
+/// it, whichever segment it is. The first sectors of the workspace become its block where it has one.
 pub fn search_segment<T: Tape>(
     host: &mut Host,
     unit: &mut Unit<T>,
     segment: u32,
     usable: u32,
     work: &mut Workspace,
-) -> Result<Searched, ScrubFault>
+) -> Result<Searched, TapeFailed>
     requires ready { IsReady T.means host.old unit.old }
     requires segment { HasSegment unit.old.drive.deck segment usable }
     requires mode { reads_in unit.old.drive.deck.mode ≡ true }
     requires whole { segment < 2 → usable ≡ whole_mask }
     ensures did { Does T.means unit.old.tape unit.new.tape [] result }
-    ensures fault { IsOkUnless result ScrubFault.Tape }
     ensures found { IfOk result (λ searched. Tells T.means unit.old.tape (λ c.
         SearchFinds c (record { segment = segment; mask = usable }) searched work.new)) }
     // And where the tape tells nothing:
@@ -65,8 +63,6 @@ pub fn search_segment<T: Tape>(
     ensures room { length work.new ≡ 32 }
     ensures keeps { Keeps T.means host.new unit.old unit.new }
 {
-    match find_deep(host, unit, segment, usable, work) {
-        Ok(found) => Ok(without_places(found)),
-        Err(fault) => Err(fault),
-    }
+    let found = find_in_segment(host, unit, Depth::Deep, segment, usable, work)?;
+    Ok(without_places(found))
 }

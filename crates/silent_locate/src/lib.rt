@@ -12,7 +12,6 @@ mod tries;
 use erasure_solve::{SolveFault, solve};
 use places::lost_among;
 use qic_base::{LostSet, Sector};
-use thiserror::Error;
 use tries::mend_one;
 
 /// What the sectors of a segment were.
@@ -25,13 +24,11 @@ pub enum Located {
 }
 
 /// Why the sectors of a segment can't be had.
-#[derive(Clone, Copy, Debug, Drop, PartialEq, Eq, Error)]
+#[derive(Clone, Copy, Debug, Drop, PartialEq, Eq)]
 pub enum LocateFault {
     /// More than three are lost: their number.
-    #[error("{lost} sectors are lost, and at most three can be found")]
     TooMany { lost: u8 },
     /// No code block agrees with the others, nor, where at most one is lost, with all of them but one.
-    #[error("no code block agrees with the sectors that are not lost, nor with all but one")]
     Mismatch,
 }
 

@@ -1,7 +1,7 @@
 -- How a generated run ends.
 use Rattle.cartridge_spec.specs.Appending.{room}
 use Rattle.std.proofs.Common.{◌≡◌, ◌≢◌, ℕ, ◌≤◌, ◌&&◌, nat_le, nat_lt, Bool, true, false, cond, List, [], ◌∷◌, Option, Some, None}
-use Rattle.std.proofs.Common.{IfSome, Result, Ok, Err, refl, sym, ap, ◌∙◌, subst, inl, inr, arith, length, ◌-◌}
+use Rattle.std.proofs.Common.{IfSome, Ok, Err, refl, sym, ap, ◌∙◌, subst, inl, inr, arith, length, ◌-◌}
 use Rattle.command_laws.proofs.CommandClean.{made_order}
 use Rattle.command_laws.proofs.CommandNumbers.{of_volume, too_many}
 use Rattle.command_laws.proofs.MadeLengths.{IsOfRun, all_of_run, has_value}
@@ -31,10 +31,10 @@ use Rattle.command_laws.specs.MadeTerms.{Makes}
 use Rattle.command_laws.specs.RunTerms.{EndsBlind}
 use Rattle.volume_store.specs.Mounting.{StoreView, IsOpened}
 use Rattle.command_laws.proofs.StoreTaking.{both_true}
-use Rattle.made_volumes.specs.declared.fault.MakeFault.{MakeFault}
+use Rattle.segment_io.specs.declared.fault.StoreFault.{StoreFault}
 use Rattle.made_volumes.specs.Runs.{HasRun, MakeEnds, RunCut}
 use Rattle.command_spec.specs.declared.status.Status.{Status}
-use Rattle.tape_cmd.specs.Make.{status_of_making}
+use Rattle.host_commands.specs.Statuses.{store_status}
 use Rattle.command_spec.specs.Outcome.{Going, Opened, OpenOutcome, WritableOutcome, CommandOutcome}
 use Rattle.volume_store.specs.Opening.{HasOpened}
 use Rattle.command_spec.specs.Machine.{IsCutOff, fault_of, may_come_from}
@@ -49,7 +49,7 @@ use Rattle.qic_base.specs.Sink as sinks
 use Rattle.qic_base.specs.Tape as tapes
 use Rattle.cartridge_spec.specs.Mounting as mounting
 use Rattle.command_spec.specs.declared.words.Words.TheVariants as words
-use Rattle.made_volumes.specs.declared.fault.MakeFault.TheVariants as fault
+use Rattle.segment_io.specs.declared.fault.StoreFault.TheVariants as fault
 use Rattle.command_spec.specs.declared.status.Status.TheVariants as status
 
 -- ---- the answers of a run
@@ -298,14 +298,18 @@ module _ {T K : Type 0} (t : tapes.Meaning T) (k : sinks.Meaning K) (seed count 
         )
 
     -- by the answer of the call
-    pub make_ended : (c : T) (x y : K) (result : Result (Unit {0}) MakeFault) → TakesBoth k → ((z : K) → k.took z [] z) →
-        MakeEnds t k store seed count (around b.tape x) (around c y) result → EndsBlind t k (words.Make seed count) a c x y
-        (status_of_making result)
-    make_ended c x y (Ok done) both nothing run = ran c x y status.Done both nothing run
-    make_ended c x y (Err fault.Protected) both nothing run = ran c x y status.Protected both nothing run
-    make_ended c x y (Err fault.TableMismatch) both nothing run = ran c x y status.TableMismatch both nothing run
-    make_ended c x y (Err (fault.Full need have)) both nothing run = ran c x y (status.Full need have) both nothing run
-    make_ended c x y (Err (fault.Lost segment lost)) both nothing run = ran c x y (status.Lost segment lost) both nothing run
-    make_ended c x y (Err (fault.Mismatch segment)) both nothing run = ran c x y (status.Mismatch segment) both nothing run
-    make_ended c x y (Err fault.Sink) both nothing run = ran_cut c x y SinkFails (λ same. cc) both nothing run
-    make_ended c x y (Err fault.Tape) both nothing run = ran_cut c x y TapeFails (λ same. cc) both nothing run
+    pub make_done : (c : T) (x y : K) → TakesBoth k → ((z : K) → k.took z [] z) →
+        MakeEnds t k store seed count (around b.tape x) (around c y) (Ok tt) → EndsBlind t k (words.Make seed count) a c x y status.Done
+    make_done c x y both nothing run = ran c x y status.Done both nothing run
+
+    pub make_failed : (c : T) (x y : K) (f : StoreFault) → TakesBoth k → ((z : K) → k.took z [] z) →
+        MakeEnds t k store seed count (around b.tape x) (around c y) (Err f) →
+        EndsBlind t k (words.Make seed count) a c x y (store_status f)
+    make_failed c x y fault.Protected both nothing run = ran c x y status.Protected both nothing run
+    make_failed c x y fault.TableMismatch both nothing run = ran c x y status.TableMismatch both nothing run
+    make_failed c x y (fault.Full need have) both nothing run = ran c x y (status.Full need have) both nothing run
+    make_failed c x y (fault.Lost segment lost) both nothing run = ran c x y (status.Lost segment lost) both nothing run
+    make_failed c x y (fault.Mismatch segment) both nothing run = ran c x y (status.Mismatch segment) both nothing run
+    make_failed c x y fault.Sink both nothing run = ran_cut c x y SinkFails (λ same. cc) both nothing run
+    make_failed c x y fault.Tape both nothing run = ran_cut c x y TapeFails (λ same. cc) both nothing run
+    make_failed c x y f both nothing run = absurd run

@@ -1,5 +1,5 @@
 -- How a script ends.
-use Rattle.std.proofs.Common.{◌≡◌, ◌≢◌, ℕ, true, List, [], ◌∷◌, ◌++◌, Option, Some, None, IfSome, Result, Ok, Err, refl, sym, ap, ◌∙◌}
+use Rattle.std.proofs.Common.{◌≡◌, ◌≢◌, ℕ, true, List, [], ◌∷◌, ◌++◌, Option, Some, None, IfSome, Ok, Err, refl, sym, ap, ◌∙◌}
 use Rattle.std.proofs.Common.{subst, inl, inr, arith}
 use Rattle.std.specs.Prelude.{is_some, false}
 use Rattle.qic_base.specs.Cartridge.{Cartridge}
@@ -10,7 +10,6 @@ use Rattle.cartridge_spec.specs.Mounting.{Mounting}
 use Rattle.drive_states.specs.Unit.{UnitView}
 use Rattle.cartridge_laws.proofs.MountOnce.{mounts_is_function}
 use Rattle.command_spec.specs.Input.{Item, IsItem, Ending, AtEnd, AtStop, AtFault, IsScript}
-use Rattle.volume_script.specs.declared.fault.ScriptFault.{ScriptFault}
 use Rattle.command_spec.specs.Script.{AreDone, Did, ItemsDo, ScriptDoes, Scripting, acts_of, end_line}
 use Rattle.cartridge_spec.specs.Header.{Header}
 use Rattle.cartridge_spec.specs.Table.{Entry}
@@ -23,7 +22,6 @@ use Rattle.command_spec.specs.Outcome.{Opened, CommandOutcome, refused, settling
 use Rattle.volume_store.specs.Opening.{HasOpened}
 use Rattle.command_spec.specs.Machine.{CommandEnds, InputLeft, NamesFault, fault_of, may_come_from}
 use Rattle.tape_cmd.proofs.Printing.{Prints}
-use Rattle.tape_cmd.specs.Script.{status_of_script}
 use Rattle.volume_store.proofs.Opened.{went_behind, cut_behind, settled_told}
 use Rattle.command_laws.proofs.CommandOpened.{quiet}
 use Rattle.command_laws.proofs.CommandTold.{input_told, input_bytes}
@@ -44,7 +42,6 @@ use Rattle.host_commands.proofs.Added.{no_script, left_by_opening}
 use Rattle.qic_base.specs.SourceCalls.{input_of}
 use Rattle.qic_base.specs.Alone.{outside}
 use Rattle.command_laws.proofs.TextInputs as inputs
-use Rattle.volume_script.specs.declared.fault.ScriptFault.TheVariants as fault
 use Rattle.volume_script.specs.Runs as runs
 use Rattle.command_spec.specs.declared.status.Status.TheVariants as status
 
@@ -294,12 +291,16 @@ module _ {T S K : Type 0} (t : tapes.Meaning T) (s : sources.Meaning S) (k : sin
     )
 
     -- by the answer of the call
-    pub script_ended : (result : Result (Unit {0}) ScriptFault) → is_some (s.left j) ≡ is_some (s.left i) →
-        runs.ScriptEnds t s k store (outside b.tape i x) (outside c j y) result →
-        CommandEnds t s k words.Script (outside a i x) (outside c j y) (status_of_script result)
-    script_ended (Ok done) tells run = ended AllDone run
-    script_ended (Err (fault.Input line place)) tells run = ended (FaultIn line place) run
-    script_ended (Err fault.TableMismatch) tells run = mismatched run
-    script_ended (Err fault.Source) tells run = cut_so SourceFails tells run
-    script_ended (Err fault.Sink) tells run = cut_so SinkFails tells run
-    script_ended (Err fault.Tape) tells run = cut_so TapeFails tells run
+    pub script_done : runs.ScriptEnds t s k store (outside b.tape i x) (outside c j y) (Ok tt) →
+        CommandEnds t s k words.Script (outside a i x) (outside c j y) status.Done
+    script_done run = ended AllDone run
+
+    pub script_failed : (why : Status) → is_some (s.left j) ≡ is_some (s.left i) →
+        runs.ScriptEnds t s k store (outside b.tape i x) (outside c j y) (Err why) →
+        CommandEnds t s k words.Script (outside a i x) (outside c j y) why
+    script_failed (status.ScriptFault line place) tells run = ended (FaultIn line place) run
+    script_failed status.TableMismatch tells run = mismatched run
+    script_failed status.SourceFault tells run = cut_so SourceFails tells run
+    script_failed status.SinkFault tells run = cut_so SinkFails tells run
+    script_failed status.TapeFault tells run = cut_so TapeFails tells run
+    script_failed other tells never = absurd never

@@ -1,4 +1,2 @@
 pub mod Lines
-pub mod Make
 pub mod Reading
-pub mod Script

@@ -17,7 +17,6 @@ use Rattle.qic_base.specs.Alone.{reading}
 use Rattle.volume_store.proofs.Refusals.{foreign_is_refused}
 use Rattle.volume_store.specs.Mounting.{StoreView}
 use Rattle.volume_store.specs.Opening.{OpenFails}
-use Rattle.volume_store.specs.declared.opening.OpenFault.{OpenFault}
 use Rattle.volume_copy.proofs.Ends.{decks_of}
 use Rattle.volume_copy.proofs.Goes.{Chained, GoesOn, append_kind, append_late, chained, count_behind, goes_broke, goes_both}
 use Rattle.volume_copy.proofs.Goes.{goes_done, goes_read, goes_same, lines_more, missing_goes, reads_count, reads_only}
@@ -27,33 +26,32 @@ use Rattle.volume_copy.specs.Runs.{MissingEnds, PrintsCount, RunEnds, SideView, 
 use Rattle.volume_copy.specs.Source.{new_source, source_means}
 use Rattle.volume_store.specs.Appending.{AppendEnds}
 use Rattle.volume_store.specs.declared.appended.Appended.{Appended}
-use Rattle.cartridge_front.specs.declared.fault.StoreFault.{StoreFault}
+use Rattle.segment_io.specs.declared.fault.StoreFault.{StoreFault}
 use Rattle.command_spec.specs.declared.copy_status.CopyStatus.TheVariants as status
 use Rattle.qic_base.specs.Sink as sinks
 use Rattle.qic_base.specs.Tape as tapes
-use Rattle.volume_store.specs.declared.opening.OpenFault.TheVariants as open_fault
-use Rattle.cartridge_front.specs.declared.fault.StoreFault.TheVariants as fault
+use Rattle.segment_io.specs.declared.fault.StoreFault.TheVariants as fault
 
 -- ---- the kinds of refusals
 
-from_kind : {T : Type 0} (t : tapes.Meaning T) (x y : T) (why : OpenFault) → OpenFails t x y why → HasKind (from_status why)
-from_kind t x y open_fault.NoCartridge fails = tt
-from_kind t x y (open_fault.Refused fault.NotFormatted) fails = refl
-from_kind t x y (open_fault.Refused (fault.Foreign field value)) fails = foreign_is_refused fails.segments field value fails.cause
-from_kind t x y (open_fault.Refused (fault.Lost segment lost)) fails = lt-ltb 3 lost fails.cause.1.0
-from_kind t x y (open_fault.Refused fault.TableMismatch) fails = refl
-from_kind t x y (open_fault.Refused fault.Tape) fails = refl
-from_kind t x y (open_fault.Refused f) fails = let kind = fails.kind in absurd (cc)
+from_kind : {T : Type 0} (t : tapes.Meaning T) (x y : T) (why : Option StoreFault) → OpenFails t x y why → HasKind (from_status why)
+from_kind t x y None fails = tt
+from_kind t x y (Some fault.NotFormatted) fails = refl
+from_kind t x y (Some (fault.Foreign field value)) fails = foreign_is_refused fails.segments field value fails.cause
+from_kind t x y (Some (fault.Lost segment lost)) fails = lt-ltb 3 lost fails.cause.1.0
+from_kind t x y (Some fault.TableMismatch) fails = refl
+from_kind t x y (Some fault.Tape) fails = refl
+from_kind t x y (Some f) fails = let kind = fails.kind in absurd (cc)
 
-to_kind : {T : Type 0} (t : tapes.Meaning T) (x y : T) (why : OpenFault) → OpenFails t x y why → HasKind (to_status why)
-to_kind t x y open_fault.NoCartridge fails = tt
-to_kind t x y (open_fault.Refused fault.NotFormatted) fails = refl
-to_kind t x y (open_fault.Refused (fault.Foreign field value)) fails = foreign_is_refused fails.segments field value fails.cause
-to_kind t x y (open_fault.Refused (fault.Lost segment lost)) fails =
+to_kind : {T : Type 0} (t : tapes.Meaning T) (x y : T) (why : Option StoreFault) → OpenFails t x y why → HasKind (to_status why)
+to_kind t x y None fails = tt
+to_kind t x y (Some fault.NotFormatted) fails = refl
+to_kind t x y (Some (fault.Foreign field value)) fails = foreign_is_refused fails.segments field value fails.cause
+to_kind t x y (Some (fault.Lost segment lost)) fails =
     and_from (segment == 2) (nat_lt 3 lost) (ap (λ (s : ℕ). s == 2) fails.cause.0) (lt-ltb 3 lost fails.cause.1.0)
-to_kind t x y (open_fault.Refused fault.TableMismatch) fails = refl
-to_kind t x y (open_fault.Refused fault.Tape) fails = refl
-to_kind t x y (open_fault.Refused f) fails = let kind = fails.kind in absurd (cc)
+to_kind t x y (Some fault.TableMismatch) fails = refl
+to_kind t x y (Some fault.Tape) fails = refl
+to_kind t x y (Some f) fails = let kind = fails.kind in absurd (cc)
 
 -- the number of a volume that differs
 pub record IsNumberOf (first : ℕ) (others : List Entry) (number : ℕ) : Type 0 where
@@ -136,13 +134,13 @@ other_text answer other count lengths text before is = (count, (lengths, before,
 pub no_text : (answer : CopyStatus) → IsOther answer → IsCopyText answer []
 no_text answer other = other_text answer other 0 [] [] (λ before. refl) refl
 
-from_other : (why : OpenFault) → IsOther (from_status why)
-from_other open_fault.NoCartridge = record { done = λ is. cc; sink = λ is. cc }
-from_other (open_fault.Refused f) = record { done = λ is. cc; sink = λ is. cc }
+from_other : (why : Option StoreFault) → IsOther (from_status why)
+from_other None = record { done = λ is. cc; sink = λ is. cc }
+from_other (Some f) = record { done = λ is. cc; sink = λ is. cc }
 
-to_other : (why : OpenFault) → IsOther (to_status why)
-to_other open_fault.NoCartridge = record { done = λ is. cc; sink = λ is. cc }
-to_other (open_fault.Refused f) = record { done = λ is. cc; sink = λ is. cc }
+to_other : (why : Option StoreFault) → IsOther (to_status why)
+to_other None = record { done = λ is. cc; sink = λ is. cc }
+to_other (Some f) = record { done = λ is. cc; sink = λ is. cc }
 
 -- ---- a run
 
@@ -157,14 +155,14 @@ module _ {A B K : Type 0} (a : tapes.Meaning A) (b : tapes.Meaning B) (k : sinks
     sink = count_behind (is_sink_broken answer) (k.faults old.sink) (k.faults mid.sink) (k.faults new.sink) sink risen.sink;
   }
 
-  open_goes : {T : Type 0} (t : tapes.Meaning T) (x y : T) (why : OpenFault) → OpenFails t x y why → GoesOn t x y
-  open_goes t x y open_fault.NoCartridge fails = goes_done t x y [] fails.0
-  open_goes t x y (open_fault.Refused fault.Tape) fails = goes_broke t x y fails.steps fails.broke
-  open_goes t x y (open_fault.Refused fault.NotFormatted) fails = goes_done t x y [] fails.did
-  open_goes t x y (open_fault.Refused (fault.Foreign field value)) fails = goes_done t x y [] fails.did
-  open_goes t x y (open_fault.Refused (fault.Lost segment lost)) fails = goes_done t x y [] fails.did
-  open_goes t x y (open_fault.Refused fault.TableMismatch) fails = goes_done t x y [] fails.did
-  open_goes t x y (open_fault.Refused f) fails = let kind = fails.kind in absurd (cc)
+  open_goes : {T : Type 0} (t : tapes.Meaning T) (x y : T) (why : Option StoreFault) → OpenFails t x y why → GoesOn t x y
+  open_goes t x y None fails = goes_done t x y [] fails.0
+  open_goes t x y (Some fault.Tape) fails = goes_broke t x y fails.steps fails.broke
+  open_goes t x y (Some fault.NotFormatted) fails = goes_done t x y [] fails.did
+  open_goes t x y (Some (fault.Foreign field value)) fails = goes_done t x y [] fails.did
+  open_goes t x y (Some (fault.Lost segment lost)) fails = goes_done t x y [] fails.did
+  open_goes t x y (Some fault.TableMismatch) fails = goes_done t x y [] fails.did
+  open_goes t x y (Some f) fails = let kind = fails.kind in absurd (cc)
 
   abbrev decks_in : CopyView A B K → Decks A B K
   decks_in view = record { from = view.from.unit.tape; to = view.to.unit.tape; sink = view.sink }
@@ -173,26 +171,26 @@ module _ {A B K : Type 0} (a : tapes.Meaning A) (b : tapes.Meaning B) (k : sinks
     -- ---- the cause
 
     module _ (quiet : k.faults new.sink ≡ k.faults old.sink) where
-      from_risen : (why : OpenFault) → OpenFails a old.from.tape new.from.tape why → b.faults new.to.tape ≡ b.faults old.to.tape →
+      from_risen : (why : Option StoreFault) → OpenFails a old.from.tape new.from.tape why → b.faults new.to.tape ≡ b.faults old.to.tape →
           HasRisen a b k (decks_of old) (decks_of new) (from_status why)
-      from_risen open_fault.NoCartridge fails to = record { from = fails.0.later; to = to; sink = quiet }
-      from_risen (open_fault.Refused fault.Tape) fails to = record { from = fails.broke.cause; to = to; sink = quiet }
-      from_risen (open_fault.Refused fault.NotFormatted) fails to = record { from = fails.did.later; to = to; sink = quiet }
-      from_risen (open_fault.Refused (fault.Foreign field value)) fails to = record { from = fails.did.later; to = to; sink = quiet }
-      from_risen (open_fault.Refused (fault.Lost segment lost)) fails to = record { from = fails.did.later; to = to; sink = quiet }
-      from_risen (open_fault.Refused fault.TableMismatch) fails to = record { from = fails.did.later; to = to; sink = quiet }
-      from_risen (open_fault.Refused f) fails to = let kind = fails.kind in absurd (cc)
+      from_risen None fails to = record { from = fails.0.later; to = to; sink = quiet }
+      from_risen (Some fault.Tape) fails to = record { from = fails.broke.cause; to = to; sink = quiet }
+      from_risen (Some fault.NotFormatted) fails to = record { from = fails.did.later; to = to; sink = quiet }
+      from_risen (Some (fault.Foreign field value)) fails to = record { from = fails.did.later; to = to; sink = quiet }
+      from_risen (Some (fault.Lost segment lost)) fails to = record { from = fails.did.later; to = to; sink = quiet }
+      from_risen (Some fault.TableMismatch) fails to = record { from = fails.did.later; to = to; sink = quiet }
+      from_risen (Some f) fails to = let kind = fails.kind in absurd (cc)
 
       module _ (from : a.faults new.from.tape ≡ a.faults old.from.tape) where
-        to_risen : (why : OpenFault) → OpenFails b old.to.tape new.to.tape why →
+        to_risen : (why : Option StoreFault) → OpenFails b old.to.tape new.to.tape why →
             HasRisen a b k (decks_of old) (decks_of new) (to_status why)
-        to_risen open_fault.NoCartridge fails = record { from = from; to = fails.0.later; sink = quiet }
-        to_risen (open_fault.Refused fault.Tape) fails = record { from = from; to = fails.broke.cause; sink = quiet }
-        to_risen (open_fault.Refused fault.NotFormatted) fails = record { from = from; to = fails.did.later; sink = quiet }
-        to_risen (open_fault.Refused (fault.Foreign field value)) fails = record { from = from; to = fails.did.later; sink = quiet }
-        to_risen (open_fault.Refused (fault.Lost segment lost)) fails = record { from = from; to = fails.did.later; sink = quiet }
-        to_risen (open_fault.Refused fault.TableMismatch) fails = record { from = from; to = fails.did.later; sink = quiet }
-        to_risen (open_fault.Refused f) fails = let kind = fails.kind in absurd (cc)
+        to_risen None fails = record { from = from; to = fails.0.later; sink = quiet }
+        to_risen (Some fault.Tape) fails = record { from = from; to = fails.broke.cause; sink = quiet }
+        to_risen (Some fault.NotFormatted) fails = record { from = from; to = fails.did.later; sink = quiet }
+        to_risen (Some (fault.Foreign field value)) fails = record { from = from; to = fails.did.later; sink = quiet }
+        to_risen (Some (fault.Lost segment lost)) fails = record { from = from; to = fails.did.later; sink = quiet }
+        to_risen (Some fault.TableMismatch) fails = record { from = from; to = fails.did.later; sink = quiet }
+        to_risen (Some f) fails = let kind = fails.kind in absurd (cc)
 
         unlike_risen : (source target : StoreView) → b.faults new.to.tape ≡ b.faults old.to.tape → (answer : CopyStatus) →
             IsUnlike source target answer → HasRisen a b k (decks_of old) (decks_of new) answer

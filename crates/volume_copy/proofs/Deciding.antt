@@ -35,7 +35,6 @@ use Rattle.qic_base.specs.Cartridge.{Cartridge}
 use Rattle.qic_base.specs.Step.{Step as TapeStep, Torn, effects}
 use Rattle.qic_base.specs.declared.tape.TapeInfo.{TapeInfo}
 use Rattle.volume_store.specs.Opening.{HasOpened, OpenFails}
-use Rattle.volume_store.specs.declared.opening.OpenFault.{OpenFault}
 use Rattle.volume_copy.proofs.Answering.{FailsSo, differs_at_most, fails_so}
 use Rattle.volume_copy.proofs.Appended.{adds_one, adds_to_target, all_acts, never_protected, side_over, tells_at, told_behind}
 use Rattle.volume_copy.proofs.Ends.{AtStart, decks_of}
@@ -51,14 +50,13 @@ use Rattle.volume_copy.specs.Source.{IsOfPart, IsRefusal, new_source, source_mea
 use Rattle.volume_store.specs.Appending.{AppendEnds}
 use Rattle.cartridge_front.specs.Learning.{MountRefuses}
 use Rattle.volume_store.specs.Mounting.{IsSettling, StoreView}
-use Rattle.cartridge_front.specs.declared.fault.StoreFault.{StoreFault}
+use Rattle.segment_io.specs.declared.fault.StoreFault.{StoreFault}
 use Rattle.cartridge_spec.specs.Mounting as mounting
 use Rattle.command_spec.specs.declared.copy_fault.CopyFault.TheVariants as copy
 use Rattle.command_spec.specs.declared.copy_status.CopyStatus.TheVariants as status
 use Rattle.qic_base.specs.Sink as sinks
 use Rattle.qic_base.specs.Tape as tapes
-use Rattle.volume_store.specs.declared.opening.OpenFault.TheVariants as open_fault
-use Rattle.cartridge_front.specs.declared.fault.StoreFault.TheVariants as fault
+use Rattle.segment_io.specs.declared.fault.StoreFault.TheVariants as fault
 
 -- ---- the openings
 
@@ -110,15 +108,15 @@ never_told : (o : Option (Option Cartridge)) → ((held : Option Cartridge) → 
 never_told None never = refl
 never_told (Some held) never = absurd (never held refl)
 
-from_never_short : (why : OpenFault) (promised read : ℕ) → from_status why ≡ status.To (copy.Short promised read) → ⊥
-from_never_short open_fault.NoCartridge promised read is = cc
-from_never_short (open_fault.Refused f) promised read is = cc
+from_never_short : (why : Option StoreFault) (promised read : ℕ) → from_status why ≡ status.To (copy.Short promised read) → ⊥
+from_never_short None promised read is = cc
+from_never_short (Some f) promised read is = cc
 
-to_never_short : {T : Type 0} (t : tapes.Meaning T) (x y : T) (why : OpenFault) (promised read : ℕ) → OpenFails t x y why →
+to_never_short : {T : Type 0} (t : tapes.Meaning T) (x y : T) (why : Option StoreFault) (promised read : ℕ) → OpenFails t x y why →
     to_status why ≡ status.To (copy.Short promised read) → ⊥
-to_never_short t x y open_fault.NoCartridge promised read fails is = cc
-to_never_short t x y (open_fault.Refused (fault.Short p r)) promised read fails is = let kind = fails.kind in cc
-to_never_short t x y (open_fault.Refused f) promised read fails is = cc
+to_never_short t x y None promised read fails is = cc
+to_never_short t x y (Some (fault.Short p r)) promised read fails is = let kind = fails.kind in cc
+to_never_short t x y (Some f) promised read fails is = cc
 
 module _ {A B K : Type 0} (a : tapes.Meaning A) (b : tapes.Meaning B) (k : sinks.Meaning K) (old new : Units A B K)
     (laws : AtStart a b k (decks_of old)) (answer : CopyStatus) where
@@ -130,26 +128,26 @@ module _ {A B K : Type 0} (a : tapes.Meaning A) (b : tapes.Meaning B) (k : sinks
   -- ---- the source
 
   module _ (held : Option Cartridge) (told : a.told old.from.tape ≡ Some held) where
-    from_failed : (why : OpenFault) → OpenFails a old.from.tape new.from.tape why → FromAnswers held (from_status why)
-    from_failed open_fault.NoCartridge fails = over_at (a.told old.from.tape) (λ h. h ≡ None) held fails.1 told
-    from_failed (open_fault.Refused fault.Tape) fails = tt
-    from_failed (open_fault.Refused fault.NotFormatted) fails =
+    from_failed : (why : Option StoreFault) → OpenFails a old.from.tape new.from.tape why → FromAnswers held (from_status why)
+    from_failed None fails = over_at (a.told old.from.tape) (λ h. h ≡ None) held fails.1 told
+    from_failed (Some fault.Tape) fails = tt
+    from_failed (Some fault.NotFormatted) fails =
         mount_answers fault.NotFormatted held (λ c. EndsVolume c copy.NotFormatted)
         (over_at (a.told old.from.tape) (λ h. IsSomeAnd h (λ c. MountRefuses c fault.NotFormatted)) held fails.told told)
-    from_failed (open_fault.Refused (fault.Foreign field value)) fails =
+    from_failed (Some (fault.Foreign field value)) fails =
         mount_answers (fault.Foreign field value) held (λ c. EndsVolume c (copy.Foreign field value))
         (over_at (a.told old.from.tape) (λ h. IsSomeAnd h (λ c. MountRefuses c (fault.Foreign field value))) held fails.told told)
-    from_failed (open_fault.Refused (fault.Lost segment lost)) fails =
+    from_failed (Some (fault.Lost segment lost)) fails =
         mount_answers (fault.Lost segment lost) held (λ c. EndsVolume c (copy.Lost segment lost))
         (over_at (a.told old.from.tape) (λ h. IsSomeAnd h (λ c. MountRefuses c (fault.Lost segment lost))) held fails.told told)
-    from_failed (open_fault.Refused fault.TableMismatch) fails =
+    from_failed (Some fault.TableMismatch) fails =
         mount_answers fault.TableMismatch held (λ c. EndsVolume c copy.TableMismatch)
         (over_at (a.told old.from.tape) (λ h. IsSomeAnd h (λ c. MountRefuses c fault.TableMismatch)) held fails.told told)
-    from_failed (open_fault.Refused f) fails = let kind = fails.kind in absurd (cc)
+    from_failed (Some f) fails = let kind = fails.kind in absurd (cc)
 
-    from_beside : MountsSome held → (why : OpenFault) → FromAnswers held (to_status why)
-    from_beside mounts open_fault.NoCartridge = mounts
-    from_beside mounts (open_fault.Refused f) = mounts
+    from_beside : MountsSome held → (why : Option StoreFault) → FromAnswers held (to_status why)
+    from_beside mounts None = mounts
+    from_beside mounts (Some f) = mounts
 
     module _ (run : HasRun a b k old new answer) where
       chain : Chained a b k run.begun run.missing.mid
@@ -331,10 +329,10 @@ module _ {A B K : Type 0} (a : tapes.Meaning A) (b : tapes.Meaning B) (k : sinks
     left_nothing : tapes.Done a old.from.tape new.from.tape [] → LeftBy a old.from.tape new.from.tape held (FromLeaves held)
     left_nothing did = record { steps = []; stops = did.stops; torn = left_done [] did.told; leaves = λ left is. inl is }
 
-    left_failed : (why : OpenFault) → OpenFails a old.from.tape new.from.tape why → LeftBy a old.from.tape new.from.tape held
+    left_failed : (why : Option StoreFault) → OpenFails a old.from.tape new.from.tape why → LeftBy a old.from.tape new.from.tape held
         (FromLeaves held)
-    left_failed open_fault.NoCartridge fails = left_nothing fails.0
-    left_failed (open_fault.Refused fault.Tape) fails =
+    left_failed None fails = left_nothing fails.0
+    left_failed (Some fault.Tape) fails =
         let front = over_at (a.told old.from.tape) (λ h. (fails.steps ≡ []) ⊎ IsSomeAnd h (λ c. IsSettling c fails.steps)) held fails.front
         told in record {
           steps = fails.steps;
@@ -350,11 +348,11 @@ module _ {A B K : Type 0} (a : tapes.Meaning A) (b : tapes.Meaning B) (k : sinks
         by_front (Some c) is (inr settling) left torn =
             from_torn c settling.header settling.words settling.settles.table settling.entries fails.steps left is settling.settles.mounts
             settling.settles.settles torn
-    left_failed (open_fault.Refused fault.NotFormatted) fails = left_nothing fails.did
-    left_failed (open_fault.Refused (fault.Foreign field value)) fails = left_nothing fails.did
-    left_failed (open_fault.Refused (fault.Lost segment lost)) fails = left_nothing fails.did
-    left_failed (open_fault.Refused fault.TableMismatch) fails = left_nothing fails.did
-    left_failed (open_fault.Refused f) fails = let kind = fails.kind in absurd (cc)
+    left_failed (Some fault.NotFormatted) fails = left_nothing fails.did
+    left_failed (Some (fault.Foreign field value)) fails = left_nothing fails.did
+    left_failed (Some (fault.Lost segment lost)) fails = left_nothing fails.did
+    left_failed (Some fault.TableMismatch) fails = left_nothing fails.did
+    left_failed (Some f) fails = let kind = fails.kind in absurd (cc)
 
     read_nothing : OnlyRead a new.from.tape new.from.tape
     read_nothing = by_done a new.from.tape new.from.tape (Done-nothing a new.from.tape)
@@ -417,32 +415,32 @@ module _ {A B K : Type 0} (a : tapes.Meaning A) (b : tapes.Meaning B) (k : sinks
   target_at (suc count) begun next start (mid, before, one) = target_next mid next (target_at count begun mid start before) one
 
   module _ (held : Option Cartridge) (told : b.told old.to.tape ≡ Some held) where
-    to_failed : (why : OpenFault) → OpenFails b old.to.tape new.to.tape why → ToAnswers held (to_status why)
-    to_failed open_fault.NoCartridge fails = over_at (b.told old.to.tape) (λ h. h ≡ None) held fails.1 told
-    to_failed (open_fault.Refused fault.Tape) fails = tt
-    to_failed (open_fault.Refused fault.NotFormatted) fails =
+    to_failed : (why : Option StoreFault) → OpenFails b old.to.tape new.to.tape why → ToAnswers held (to_status why)
+    to_failed None fails = over_at (b.told old.to.tape) (λ h. h ≡ None) held fails.1 told
+    to_failed (Some fault.Tape) fails = tt
+    to_failed (Some fault.NotFormatted) fails =
         mount_answers fault.NotFormatted held (λ c. EndsAppend c copy.NotFormatted)
         (over_at (b.told old.to.tape) (λ h. IsSomeAnd h (λ c. MountRefuses c fault.NotFormatted)) held fails.told told)
-    to_failed (open_fault.Refused (fault.Foreign field value)) fails =
+    to_failed (Some (fault.Foreign field value)) fails =
         mount_answers (fault.Foreign field value) held (λ c. EndsAppend c (copy.Foreign field value))
         (over_at (b.told old.to.tape) (λ h. IsSomeAnd h (λ c. MountRefuses c (fault.Foreign field value))) held fails.told told)
-    to_failed (open_fault.Refused (fault.Lost segment lost)) fails =
+    to_failed (Some (fault.Lost segment lost)) fails =
         mount_answers (fault.Lost segment lost) held (λ c. EndsAppend c (copy.Lost segment lost))
         (over_at (b.told old.to.tape) (λ h. IsSomeAnd h (λ c. MountRefuses c (fault.Lost segment lost))) held fails.told told)
-    to_failed (open_fault.Refused fault.TableMismatch) fails =
+    to_failed (Some fault.TableMismatch) fails =
         mount_answers fault.TableMismatch held (λ c. EndsAppend c copy.TableMismatch)
         (over_at (b.told old.to.tape) (λ h. IsSomeAnd h (λ c. MountRefuses c fault.TableMismatch)) held fails.told told)
-    to_failed (open_fault.Refused f) fails = let kind = fails.kind in absurd (cc)
+    to_failed (Some f) fails = let kind = fails.kind in absurd (cc)
 
     -- where the source was not opened the target was not looked at
-    to_beside : (why : OpenFault) → OpenFails a old.from.tape new.from.tape why → ToAnswers held (from_status why)
-    to_beside open_fault.NoCartridge fails = tt
-    to_beside (open_fault.Refused fault.Tape) fails = tt
-    to_beside (open_fault.Refused fault.NotFormatted) fails = tt
-    to_beside (open_fault.Refused (fault.Foreign field value)) fails = tt
-    to_beside (open_fault.Refused (fault.Lost segment lost)) fails = λ other. absurd (other fails.cause.0)
-    to_beside (open_fault.Refused fault.TableMismatch) fails = tt
-    to_beside (open_fault.Refused f) fails = let kind = fails.kind in absurd (cc)
+    to_beside : (why : Option StoreFault) → OpenFails a old.from.tape new.from.tape why → ToAnswers held (from_status why)
+    to_beside None fails = tt
+    to_beside (Some fault.Tape) fails = tt
+    to_beside (Some fault.NotFormatted) fails = tt
+    to_beside (Some (fault.Foreign field value)) fails = tt
+    to_beside (Some (fault.Lost segment lost)) fails = λ other. absurd (other fails.cause.0)
+    to_beside (Some fault.TableMismatch) fails = tt
+    to_beside (Some f) fails = let kind = fails.kind in absurd (cc)
 
     to_unlike : (source target : StoreView) → HasOpened b old.to.tape new.to target → IsUnlike source target answer → ToAnswers held answer
     to_unlike source target opened unlike = by_case unlike

@@ -25,7 +25,6 @@ use Rattle.qic_base.specs.Step.{Step as TapeStep}
 use Rattle.qic_base.specs.declared.tape.TapeInfo.{TapeInfo}
 use Rattle.volume_store.proofs.Opened.{cut_behind, opening_cut, went_behind}
 use Rattle.volume_store.specs.Opening.{HasOpened, OpenFails}
-use Rattle.volume_store.specs.declared.opening.OpenFault.{OpenFault}
 use Rattle.volume_copy.proofs.Appended.{side_over}
 use Rattle.volume_copy.proofs.Carried.{Carried, Reached, carried, seen}
 use Rattle.volume_copy.proofs.Goes.{ReadsFor, missing_goes}
@@ -36,15 +35,14 @@ use Rattle.volume_copy.specs.Faults.{copy_fault, from_status, to_status}
 use Rattle.volume_copy.specs.Runs.{AreOpened, BothRefused, CopyRuns, CopyView, HasRun, IsUnlike, RunEnds, Units}
 use Rattle.cartridge_front.specs.Learning.{MountRefuses}
 use Rattle.volume_store.specs.Mounting.{StoreView}
-use Rattle.cartridge_front.specs.declared.fault.StoreFault.{StoreFault}
+use Rattle.segment_io.specs.declared.fault.StoreFault.{StoreFault}
 use Rattle.cartridge_spec.specs.Mounting as mounting
 use Rattle.command_spec.specs.declared.copy_fault.CopyFault.TheVariants as copy
 use Rattle.command_spec.specs.declared.copy_status.CopyStatus.TheVariants as status
 use Rattle.qic_base.specs.Sink as sinks
 use Rattle.qic_base.specs.Tape as tapes
 use Rattle.qic_base.specs.TapeCalls as tape_calls
-use Rattle.volume_store.specs.declared.opening.OpenFault.TheVariants as open_fault
-use Rattle.cartridge_front.specs.declared.fault.StoreFault.TheVariants as fault
+use Rattle.segment_io.specs.declared.fault.StoreFault.TheVariants as fault
 
 -- the tapes and the sink of units
 abbrev pub decks_of : {A B K : Type 0} → Units A B K → Decks A B K
@@ -121,7 +119,7 @@ module _ {A B K : Type 0} (a : tapes.Meaning A) (b : tapes.Meaning B) (k : sinks
 
     -- ---- the source can't be opened
 
-    from_failed : (why : OpenFault) → OpenFails a old.from.tape new.from.tape why → new.to ≡ old.to → new.sink ≡ old.sink →
+    from_failed : (why : Option StoreFault) → OpenFails a old.from.tape new.from.tape why → new.to ≡ old.to → new.sink ≡ old.sink →
         Ends (from_status why)
     from_failed why fails still quiet_so = by_why why fails
       where
@@ -148,8 +146,8 @@ module _ {A B K : Type 0} (a : tapes.Meaning A) (b : tapes.Meaning B) (k : sinks
                   went = untouched;
                 }
 
-        by_why : (w : OpenFault) → OpenFails a old.from.tape new.from.tape w → Ends (from_status w)
-        by_why open_fault.NoCartridge absent =
+        by_why : (w : Option StoreFault) → OpenFails a old.from.tape new.from.tape w → Ends (from_status w)
+        by_why None absent =
             let none : from ≡ None = over_at (a.told old.from.tape) (λ held. held ≡ None) from absent.1 from_told in record {
               outcome = copy_refused status.FromAbsent;
               plain = subst (λ (held : Option Cartridge). CopyYields held to (copy_refused status.FromAbsent)) (sym none) refl;
@@ -157,7 +155,7 @@ module _ {A B K : Type 0} (a : tapes.Meaning A) (b : tapes.Meaning B) (k : sinks
               settling = absent.0;
               went = untouched;
             }
-        by_why (open_fault.Refused fault.Tape) cut =
+        by_why (Some fault.Tape) cut =
             let some = some_outcome in
             let front = over_at (a.told old.from.tape) _ from cut.front from_told in
             let begins = source_begins from to cut.steps some.0 front some.1 in record {
@@ -170,11 +168,11 @@ module _ {A B K : Type 0} (a : tapes.Meaning A) (b : tapes.Meaning B) (k : sinks
               parts = refl;
               went = untouched;
             }
-        by_why (open_fault.Refused fault.NotFormatted) down = refused fault.NotFormatted down.did down.told
-        by_why (open_fault.Refused (fault.Foreign field value)) down = refused (fault.Foreign field value) down.did down.told
-        by_why (open_fault.Refused (fault.Lost segment lost)) down = refused (fault.Lost segment lost) down.did down.told
-        by_why (open_fault.Refused fault.TableMismatch) down = refused fault.TableMismatch down.did down.told
-        by_why (open_fault.Refused f) down = absurd (let kind = down.kind in cc)
+        by_why (Some fault.NotFormatted) down = refused fault.NotFormatted down.did down.told
+        by_why (Some (fault.Foreign field value)) down = refused (fault.Foreign field value) down.did down.told
+        by_why (Some (fault.Lost segment lost)) down = refused (fault.Lost segment lost) down.did down.told
+        by_why (Some fault.TableMismatch) down = refused fault.TableMismatch down.did down.told
+        by_why (Some f) down = absurd (let kind = down.kind in cc)
 
     -- ---- the source was opened
 
@@ -207,7 +205,8 @@ module _ {A B K : Type 0} (a : tapes.Meaning A) (b : tapes.Meaning B) (k : sinks
 
       -- ---- the target can't be
 
-      to_failed : (why : OpenFault) → OpenFails b old.to.tape new.to.tape why → new.from ≡ unit → new.sink ≡ old.sink → Ends (to_status why)
+      to_failed : (why : Option StoreFault) → OpenFails b old.to.tape new.to.tape why → new.from ≡ unit → new.sink ≡ old.sink →
+          Ends (to_status why)
       to_failed why fails still quiet_so = by_why why fails
         where
           read_on : tapes.Done a unit.tape new.from.tape []
@@ -230,13 +229,13 @@ module _ {A B K : Type 0} (a : tapes.Meaning A) (b : tapes.Meaning B) (k : sinks
                 how.to source,
               )
 
-          by_why : (w : OpenFault) → OpenFails b old.to.tape new.to.tape w → Ends (to_status w)
-          by_why open_fault.NoCartridge absent =
+          by_why : (w : Option StoreFault) → OpenFails b old.to.tape new.to.tape w → Ends (to_status w)
+          by_why None absent =
               let none : to ≡ None = over_at (b.told old.to.tape) (λ held. held ≡ None) to absent.1 to_told in
               went_with [] status.ToAbsent (subst (λ (held : Option Cartridge). ToDoes source held [] status.ToAbsent) (sym none)
               (refl, refl)) read_on
               (nothing_done laws.nothing old.to.tape new.to.tape old.sink new.sink quiet_so absent.0)
-          by_why (open_fault.Refused fault.Tape) cut =
+          by_why (Some fault.Tape) cut =
               let some = some_outcome in
               let first = settles_first from_at.cartridge store.header store.words from_at.at.table store.entries to some.0
               from_at.at.mounts
@@ -252,11 +251,11 @@ module _ {A B K : Type 0} (a : tapes.Meaning A) (b : tapes.Meaning B) (k : sinks
                     (opening_cut b no_source k laws.nothing old.to.tape new.to.tape tt old.sink cut.steps some.0.acts begins.0 begins.1
                     cut.broke);
               }
-          by_why (open_fault.Refused fault.NotFormatted) down = refused fault.NotFormatted down.did down.told
-          by_why (open_fault.Refused (fault.Foreign field value)) down = refused (fault.Foreign field value) down.did down.told
-          by_why (open_fault.Refused (fault.Lost segment lost)) down = refused (fault.Lost segment lost) down.did down.told
-          by_why (open_fault.Refused fault.TableMismatch) down = refused fault.TableMismatch down.did down.told
-          by_why (open_fault.Refused f) down = absurd (let kind = down.kind in cc)
+          by_why (Some fault.NotFormatted) down = refused fault.NotFormatted down.did down.told
+          by_why (Some (fault.Foreign field value)) down = refused (fault.Foreign field value) down.did down.told
+          by_why (Some (fault.Lost segment lost)) down = refused (fault.Lost segment lost) down.did down.told
+          by_why (Some fault.TableMismatch) down = refused fault.TableMismatch down.did down.told
+          by_why (Some f) down = absurd (let kind = down.kind in cc)
 
       -- ---- both were
 

@@ -26,12 +26,12 @@ use Rattle.volume_copy.specs.Source.{IsOfPart, SourceView, new_source, source_me
 use Rattle.volume_store.specs.Appending.{AppendEnds}
 use Rattle.volume_store.specs.Mounting.{StoreView}
 use Rattle.volume_store.specs.declared.appended.Appended.{Appended}
-use Rattle.cartridge_front.specs.declared.fault.StoreFault.{StoreFault}
+use Rattle.segment_io.specs.declared.fault.StoreFault.{StoreFault}
 use Rattle.command_spec.specs.declared.copy_fault.CopyFault.TheVariants as copy
 use Rattle.command_spec.specs.declared.copy_status.CopyStatus.TheVariants as status
 use Rattle.qic_base.specs.Sink as sinks
 use Rattle.qic_base.specs.Tape as tapes
-use Rattle.cartridge_front.specs.declared.fault.StoreFault.TheVariants as fault
+use Rattle.segment_io.specs.declared.fault.StoreFault.TheVariants as fault
 
 -- ---- a tape
 

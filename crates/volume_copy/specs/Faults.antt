@@ -1,13 +1,11 @@
 -- The answers that the refusals of a store make in a copy (this project's own).
-use Rattle.std.specs.Prelude.{Bool, true, false}
+use Rattle.std.specs.Prelude.{Bool, true, false, Option, Some, None}
 use Rattle.command_spec.specs.declared.copy_fault.CopyFault.{CopyFault}
 use Rattle.command_spec.specs.declared.copy_status.CopyStatus.{CopyStatus}
-use Rattle.volume_store.specs.declared.opening.OpenFault.{OpenFault}
-use Rattle.cartridge_front.specs.declared.fault.StoreFault.{StoreFault}
+use Rattle.segment_io.specs.declared.fault.StoreFault.{StoreFault}
 use Rattle.command_spec.specs.declared.copy_fault.CopyFault.TheVariants as copy
 use Rattle.command_spec.specs.declared.copy_status.CopyStatus.TheVariants as status
-use Rattle.volume_store.specs.declared.opening.OpenFault.TheVariants as open_fault
-use Rattle.cartridge_front.specs.declared.fault.StoreFault.TheVariants as fault
+use Rattle.segment_io.specs.declared.fault.StoreFault.TheVariants as fault
 
 -- a refusal of a cartridge, or a fault of its tape: not of a source or a sink, nor one for want of a volume
 abbrev pub is_of_cartridge : StoreFault → Bool
@@ -31,17 +29,12 @@ copy_fault fault.Source = copy.Tape
 copy_fault fault.Sink = copy.Tape
 copy_fault fault.Tape = copy.Tape
 
--- the answer where the source can't be opened
-abbrev pub from_status : OpenFault → CopyStatus
-from_status open_fault.NoCartridge = status.FromAbsent
-from_status (open_fault.Refused why) = status.From (copy_fault why)
+-- the answer where the source can't be opened: its drive holds nothing, or it was refused so
+abbrev pub from_status : Option StoreFault → CopyStatus
+from_status None = status.FromAbsent
+from_status (Some why) = status.From (copy_fault why)
 
 -- the answer where the target can't be opened
-abbrev pub to_status : OpenFault → CopyStatus
-to_status open_fault.NoCartridge = status.ToAbsent
-to_status (open_fault.Refused why) = status.To (copy_fault why)
-
--- .. and it is a refusal of a cartridge
-abbrev pub is_of_opening : OpenFault → Bool
-is_of_opening open_fault.NoCartridge = true
-is_of_opening (open_fault.Refused why) = is_of_cartridge why
+abbrev pub to_status : Option StoreFault → CopyStatus
+to_status None = status.ToAbsent
+to_status (Some why) = status.To (copy_fault why)

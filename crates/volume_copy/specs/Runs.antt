@@ -13,19 +13,18 @@ use Rattle.drive_states.specs.Unit.{UnitView}
 use Rattle.host_driver.specs.Fits.{deck_of}
 use Rattle.qic_base.specs.Alone.{reading}
 use Rattle.volume_store.specs.Opening.{HasOpened, OpenFails}
-use Rattle.volume_store.specs.declared.opening.OpenFault.{OpenFault}
 use Rattle.volume_copy.specs.Faults.{copy_fault, from_status, is_of_cartridge, to_status}
 use Rattle.volume_copy.specs.Source.{IsSoundSource, KeepsVolume, SourceView, new_source, source_means}
 use Rattle.volume_store.specs.Appending.{AppendEnds, FaultsUnread, KeepsFormat, KeepsList, InOrder}
 use Rattle.volume_store.specs.Mounting.{StoreView, StoreFits}
 use Rattle.volume_store.specs.declared.appended.Appended.{Appended}
-use Rattle.cartridge_front.specs.declared.fault.StoreFault.{StoreFault}
+use Rattle.segment_io.specs.declared.fault.StoreFault.{StoreFault}
 use Rattle.command_spec.specs.declared.copy_fault.CopyFault.TheVariants as copy
 use Rattle.command_spec.specs.declared.copy_status.CopyStatus.TheVariants as status
 use Rattle.qic_base.specs.Sink as sinks
 use Rattle.qic_base.specs.SinkCalls as sink_calls
 use Rattle.qic_base.specs.Tape as tapes
-use Rattle.cartridge_front.specs.declared.fault.StoreFault.TheVariants as fault
+use Rattle.segment_io.specs.declared.fault.StoreFault.TheVariants as fault
 
 -- ---- one volume
 
@@ -162,8 +161,8 @@ IsUnlike from to answer =
 abbrev pub BothRefused : {A B : Type 0} (a : tapes.Meaning A) (b : tapes.Meaning B) (from : A) (from' : UnitView A) (to to' : UnitView B) →
     CopyStatus → Type 0
 BothRefused a b from from' to to' answer =
-    ((why : OpenFault) × OpenFails a from from'.tape why × (to' ≡ to) × (answer ≡ from_status why))
-    ⊎ ((source : StoreView) × (why : OpenFault) × HasOpened a from from' source × OpenFails b to.tape to'.tape why ×
+    ((why : Option StoreFault) × OpenFails a from from'.tape why × (to' ≡ to) × (answer ≡ from_status why))
+    ⊎ ((source : StoreView) × (why : Option StoreFault) × HasOpened a from from' source × OpenFails b to.tape to'.tape why ×
     (answer ≡ to_status why))
     ⊎ ((source target : StoreView) × HasOpened a from from' source × HasOpened b to.tape to' target × IsUnlike source target answer)
 

@@ -4,7 +4,7 @@ ghost use Rattle.std.specs.Prelude.{MatchResult};
 ghost use Rattle.volume_copy.specs.Runs.{AreOpened, BothRefused};
 
 use crate::comparing::first_difference;
-use crate::fault::{from_status, to_status};
+use crate::fault::copy_fault;
 use command_spec::{CopyFault, CopyStatus};
 use drive_states::Unit;
 use qic_base::{NoMemory, Tape};
@@ -47,12 +47,22 @@ pub fn open_both<A: Tape, B: Tape>(
         (λ answer. BothRefused A.means B.means from.old.tape from.new to.old to.new answer) }
 {
     let source = match open(from, rooms.from) {
-        Ok(store) => store,
-        Err(fault) => return Err(from_status(fault)),
+        Ok(Some(store)) => store,
+        Ok(None) => return Err(CopyStatus::FromAbsent),
+        Err(fault) => {
+            return Err(CopyStatus::From {
+                fault: copy_fault(fault),
+            });
+        }
     };
     let target = match open(to, rooms.to) {
-        Ok(store) => store,
-        Err(fault) => return Err(to_status(fault)),
+        Ok(Some(store)) => store,
+        Ok(None) => return Err(CopyStatus::ToAbsent),
+        Err(fault) => {
+            return Err(CopyStatus::To {
+                fault: copy_fault(fault),
+            });
+        }
     };
     if target.protected() {
         return Err(CopyStatus::To {

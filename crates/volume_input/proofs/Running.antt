@@ -21,8 +21,8 @@ use Rattle.command_spec.specs.Append.{segment_act, volume_acts, filled_acts, inp
 use Rattle.volume_input.specs.Input.{HasWritten, EndedShort, InputCut, InputEnds}
 use Rattle.volume_input.specs.Next.{NextWritten, NextBroken, NoneCame, CameShort, NextEnds, grown}
 use Rattle.sector_fill.specs.Filling.{GaveWithin}
-use Rattle.volume_input.specs.declared.fault.InputFault.{InputFault}
-use Rattle.volume_input.specs.declared.fault.InputFault.TheVariants as fault
+use Rattle.segment_io.specs.declared.fault.StoreFault.{StoreFault}
+use Rattle.segment_io.specs.declared.fault.StoreFault.TheVariants as fault
 use Rattle.volume_input.specs.declared.written.Written.{Written}
 use Rattle.volume_input.proofs.Filled.{Carry, GoesOn, carry_head, carries_some, filled_more, filled_ends, volume_ends, filled_behind}
 use Rattle.volume_input.proofs.Filled.{volume_behind, volume_full, taken_full, taken_last}
@@ -326,8 +326,9 @@ module _ {T S : Type 0} {t : tapes.Meaning T} {s : sources.Meaning S} where
         (λ is. come.came.whole is ∙ ap (λ (n : ℕ). min (capacity (mask_at words segment)) (most - n)) before)
         (goes_on came come.came.some))
 
-    pub failed : (why : InputFault) → NextEnds t s words segment written.bytes most exact now new (Err why) →
+    pub failed : (why : StoreFault) → NextEnds t s words segment written.bytes most exact now new (Err why) →
         InputEnds t s words segments most exact start new (Err why)
-    failed (fault.Short read) come = short read come
+    failed (fault.Short promised read) come = (come.0, short read come.1)
     failed fault.Source come = source_failed come.0 come.1
     failed fault.Tape come = tape_failed come
+    failed other come = absurd come

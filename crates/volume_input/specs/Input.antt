@@ -6,12 +6,12 @@ use Rattle.command_spec.specs.Append.{volume_acts, filled_acts, input_acts}
 use Rattle.qic_base.specs.Acts.{Outside, Went, Failing, Cut, TapeFails, SourceFails}
 use Rattle.qic_base.specs.Alone.{no_sink}
 use Rattle.qic_base.specs.SourceCalls.{Gave, HasEnded}
-use Rattle.volume_input.specs.declared.fault.InputFault.{InputFault}
+use Rattle.segment_io.specs.declared.fault.StoreFault.{StoreFault}
 use Rattle.volume_input.specs.declared.written.Written.{Written}
 use Rattle.qic_base.specs.Source.{IsInput}
 use Rattle.qic_base.specs.Source as sources
 use Rattle.qic_base.specs.Tape as tapes
-use Rattle.volume_input.specs.declared.fault.InputFault.TheVariants as fault
+use Rattle.segment_io.specs.declared.fault.StoreFault.TheVariants as fault
 
 -- ---- how it ended
 
@@ -56,8 +56,10 @@ pub record InputCut {T S : Type 0} (t : tapes.Meaning T) (s : sources.Meaning S)
   pub few : taken ≤ most
 
 abbrev pub InputEnds : {T S : Type 0} (t : tapes.Meaning T) (s : sources.Meaning S) (words segments : List ℕ) (most : ℕ) (exact : Bool)
-    (old new : Outside T S (Unit {0})) → Result Written InputFault → Type 0
+    (old new : Outside T S (Unit {0})) → Result Written StoreFault → Type 0
 InputEnds t s words segments most exact old new (Ok written) = HasWritten t s words segments most exact old new written
-InputEnds t s words segments most exact old new (Err (fault.Short read)) = EndedShort t s words segments most exact old new read
+InputEnds t s words segments most exact old new (Err (fault.Short promised read)) =
+    (promised ≡ most) × EndedShort t s words segments most exact old new read
 InputEnds t s words segments most exact old new (Err fault.Source) = InputCut t s words segments most exact old new SourceFails
 InputEnds t s words segments most exact old new (Err fault.Tape) = InputCut t s words segments most exact old new TapeFails
+InputEnds t s words segments most exact old new (Err other) = ⊥

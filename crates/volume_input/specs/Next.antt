@@ -9,8 +9,8 @@ use Rattle.qic_base.specs.Alone.{no_sink}
 use Rattle.cartridge_spec.specs.Shape.{mask_at, capacity}
 use Rattle.sector_fill.specs.Filling.{GaveUpTo, GaveWithin}
 use Rattle.command_spec.specs.Append.{segment_act}
-use Rattle.volume_input.specs.declared.fault.InputFault.{InputFault}
-use Rattle.volume_input.specs.declared.fault.InputFault.TheVariants as fault
+use Rattle.segment_io.specs.declared.fault.StoreFault.{StoreFault}
+use Rattle.segment_io.specs.declared.fault.StoreFault.TheVariants as fault
 use Rattle.volume_input.specs.declared.written.Written.{Written}
 
 -- The source gave these bytes: as many as the segment carries, or as are still wanted, or fewer where it has ended and an
@@ -57,13 +57,15 @@ pub record CameShort {T S : Type 0} (t : tapes.Meaning T) (s : sources.Meaning S
   pub count : read ≡ before + length bytes
 
 abbrev pub NextEnds : {T S : Type 0} (t : tapes.Meaning T) (s : sources.Meaning S) (words : List ℕ) (segment before most : ℕ) (exact : Bool)
-    (old new : Outside T S (Unit {0})) → Result (Option ℕ) InputFault → Type 0
+    (old new : Outside T S (Unit {0})) → Result (Option ℕ) StoreFault → Type 0
 NextEnds t s words segment before most exact old new (Ok (Some read)) = NextWritten t s words segment before most exact old new read
 NextEnds t s words segment before most exact old new (Ok None) = NoneCame t s words segment before most exact old new
-NextEnds t s words segment before most exact old new (Err (fault.Short read)) = CameShort t s words segment before most exact old new read
+NextEnds t s words segment before most exact old new (Err (fault.Short promised read)) =
+    (promised ≡ most) × CameShort t s words segment before most exact old new read
 NextEnds t s words segment before most exact old new (Err fault.Source) =
     GaveWithin s old.source new.source (capacity (mask_at words segment)) (most - before) × Cut t s no_sink old new [] SourceFails
 NextEnds t s words segment before most exact old new (Err fault.Tape) = NextBroken t s words segment before most exact old new
+NextEnds t s words segment before most exact old new (Err other) = ⊥
 
 -- ---- what is told of a volume that goes on
 

@@ -9,7 +9,6 @@ ghost use Rattle.host_driver.specs.Fits.{segments_of};
 ghost use Rattle.volume_input.specs.Input.{InputEnds};
 ghost use Rattle.volume_input.specs.Length.{is_exact};
 
-use crate::fault::InputFault;
 use crate::length::Wanted;
 use crate::segment::write_next;
 use crate::written::Written;
@@ -17,7 +16,7 @@ use bad_sector_map::BadMap;
 use drive_states::Unit;
 use host_driver::Host;
 use qic_base::{Source, Tape};
-use segment_io::Workspace;
+use segment_io::{StoreFault, Workspace};
 
 /// Writes the bytes of the source, at most as many as are wanted, into the carrying segments from `first` on, each segment
 /// once its bytes have come: all its usable sectors, with zero bytes behind the last byte, and their parity. One segment
@@ -31,7 +30,7 @@ pub fn take_volume<T: Tape, S: Source>(
     wanted: Wanted,
     work: &mut Workspace,
     source: &mut S,
-) -> Result<Written, InputFault>
+) -> Result<Written, StoreFault>
     requires ready { IsReady T.means host.old unit.old }
     requires referenced { is_referenced unit.old.drive.deck ≡ true }
     requires writable { MayWrite unit.old.drive.deck }
@@ -54,7 +53,7 @@ pub fn take_volume<T: Tape, S: Source>(
         if capacity == 0 {
             continue;
         }
-        match write_next(
+        let next = write_next(
             host,
             unit,
             map,
@@ -63,15 +62,13 @@ pub fn take_volume<T: Tape, S: Source>(
             wanted,
             work,
             source,
-        ) {
-            Ok(Some(read)) => {
-                written = written.with(segment, read);
-                if read < capacity || written.bytes == wanted.most {
-                    return Ok(written);
-                }
-            }
-            Ok(None) => return Ok(written),
-            Err(fault) => return Err(fault),
+        )?;
+        let Some(read) = next else {
+            return Ok(written);
+        };
+        written = written.with(segment, read);
+        if read < capacity || written.bytes == wanted.most {
+            return Ok(written);
         }
     }
     unreachable!("the segments carry all bytes that are wanted")

@@ -8,14 +8,13 @@ ghost use Rattle.segment_io.specs.Calls.{HasSegment};
 ghost use Rattle.volume_input.specs.Length.{is_exact};
 ghost use Rattle.volume_input.specs.Next.{NextEnds};
 
-use crate::fault::InputFault;
 use crate::filling::fill_work;
 use crate::length::{Length, Wanted};
 use bad_sector_map::BadMap;
 use drive_states::Unit;
 use host_driver::Host;
-use qic_base::{Source, SourceFailed, Tape, are_sectors};
-use segment_io::{SegFault, Workspace, write_segment};
+use qic_base::{Source, Tape, are_sectors};
+use segment_io::{StoreFault, Workspace, write_segment};
 
 /// Writes a carrying segment with the next bytes of the source, as many as it carries, and no more than are wanted with
 /// the `before` ones that stand in the segments in front of it. The answer is their number; None where none came behind
@@ -29,7 +28,7 @@ pub fn write_next<T: Tape, S: Source>(
     wanted: Wanted,
     work: &mut Workspace,
     source: &mut S,
-) -> Result<Option<u32>, InputFault>
+) -> Result<Option<u32>, StoreFault>
     requires ready { IsReady T.means host.old unit.old }
     requires writable { MayWrite unit.old.drive.deck }
     requires segment { HasSegment unit.old.drive.deck segment (mask_at map.now segment) }
@@ -43,24 +42,17 @@ pub fn write_next<T: Tape, S: Source>(
 {
     let capacity = map.capacity(segment);
     let left = wanted.most - before;
-    let read = match fill_work(source, work, (capacity / 1024) as u8, left) {
-        Ok(read) => read,
-        Err(SourceFailed) => return Err(InputFault::Source),
-    };
+    let read = fill_work(source, work, (capacity / 1024) as u8, left)?;
     are_sectors(work.sectors());
     if wanted.length == Length::Exact && read < capacity.min(left) {
-        return Err(InputFault::Short {
+        return Err(StoreFault::Short {
+            promised: wanted.most,
             read: before + read,
         });
     }
     if read == 0 && before > 0 {
         return Ok(None);
     }
-    match write_segment(host, unit, segment, map.usable(segment), work) {
-        Ok(()) => Ok(Some(read)),
-        Err(SegFault::Tape) => Err(InputFault::Tape),
-        Err(SegFault::Lost { .. } | SegFault::Mismatch { .. }) => {
-            unreachable!("a write reads nothing")
-        }
-    }
+    write_segment(host, unit, segment, map.usable(segment), work)?;
+    Ok(Some(read))
 }

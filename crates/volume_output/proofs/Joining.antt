@@ -14,11 +14,11 @@ use Rattle.qic_base.specs.Cartridge.{Cartridge}
 use Rattle.qic_base.specs.Step.{Step}
 use Rattle.segment_io.proofs.Going.{tells_always, tells_then}
 use Rattle.volume_output.specs.Output.{GaveVolume, VolumeCut, OutputEnds}
-use Rattle.volume_output.specs.declared.fault.OutputFault.{OutputFault}
+use Rattle.segment_io.specs.declared.fault.StoreFault.{StoreFault}
 use Rattle.qic_base.specs.Sink as sinks
 use Rattle.qic_base.specs.Tape as tapes
 use Rattle.qic_base.specs.TapeCalls as tape_calls
-use Rattle.volume_output.specs.declared.fault.OutputFault.TheVariants as fault
+use Rattle.segment_io.specs.declared.fault.StoreFault.TheVariants as fault
 
 -- ---- lists of acts as they are printed
 
@@ -132,7 +132,7 @@ module _ {T K : Type 0} (t : tapes.Meaning T) (k : sinks.Meaning K) (words : Lis
             cut = cut_behind failing cut.acts cut.cut;
           }
 
-    pub ends_behind : TakesBoth k → (new : Outside T (Unit {0}) K) (result : Result (Unit {0}) OutputFault) →
+    pub ends_behind : TakesBoth k → (new : Outside T (Unit {0}) K) (result : Result (Unit {0}) StoreFault) →
         GaveVolume t k words (piece ∷ []) lined a b Restored → OutputEnds t k words needed lined b new result →
         OutputEnds t k words (piece ∷ needed) lined a new result
     ends_behind both new (Ok done) first rest = gave_more both new (given first) Restored rest
@@ -140,6 +140,7 @@ module _ {T K : Type 0} (t : tapes.Meaning T) (k : sinks.Meaning K) (words : Lis
     ends_behind both new (Err (fault.Mismatch segment)) first rest = gave_more both new (given first) (MismatchIn segment) rest
     ends_behind both new (Err fault.Sink) first rest = cut_more both new (given first) SinkFails rest
     ends_behind both new (Err fault.Tape) first rest = cut_more both new (given first) TapeFails rest
+    ends_behind both new (Err other) first rest = absurd rest
 
     -- ---- it ended, and those behind it were not begun
 
@@ -215,9 +216,10 @@ module _ {T K : Type 0} (t : tapes.Meaning T) (k : sinks.Meaning K) (words : Lis
         cut = cut_some cut.acts cut.are cut.cut;
       }
 
-    pub ends_there : (why : OutputFault) → OutputEnds t k words (piece ∷ []) lined a b (Err why) →
+    pub ends_there : (why : StoreFault) → OutputEnds t k words (piece ∷ []) lined a b (Err why) →
         OutputEnds t k words (piece ∷ needed) lined a b (Err why)
     ends_there (fault.Lost segment lost) ends = lost_first segment lost ends.acts ends.went ends.told ends.are ends.ends
     ends_there (fault.Mismatch segment) ends = mismatch_first segment ends.acts ends.went ends.told ends.are ends.ends
     ends_there fault.Sink ends = cut_first SinkFails ends
     ends_there fault.Tape ends = cut_first TapeFails ends
+    ends_there other ends = absurd ends

@@ -1,5 +1,5 @@
 -- One segment read and given, or not.
-use Rattle.std.proofs.Common.{◌≡◌, ℕ, Bool, true, false, List, [], ◌∷◌, ◌++◌, length, take, refl, sym, ap, ◌∙◌, subst, arith}
+use Rattle.std.proofs.Common.{◌≡◌, ◌≢◌, ℕ, ◌<◌, ◌≤◌, Bool, true, false, List, [], ◌∷◌, ◌++◌, length, take, refl, sym, ap, ◌∙◌, subst, arith}
 use Rattle.std.proofs.Common.{append-nil, codes, decimal, Result, Ok, Err, IsErr}
 use Rattle.qic_base.specs.Cartridge.{Cartridge}
 use Rattle.qic_base.proofs.Steps.{Tells-map}
@@ -12,14 +12,16 @@ use Rattle.cartridge_laws.specs.Segment.{data_of}
 use Rattle.cartridge_spec.specs.Shape.{mask_at, usable_count}
 use Rattle.cartridge_laws.proofs.Segments.{count_of_cells}
 use Rattle.cartridge_spec.specs.Volumes.{bytes_in}
-use Rattle.segment_io.specs.Reading.{HasSolved}
+use Rattle.segment_io.specs.Faults.{store_fault}
+use Rattle.segment_io.specs.Reading.{HasSolved, OnlyReads, Solves}
+use Rattle.segment_io.specs.declared.fault.SegFault.{SegFault}
 use Rattle.segment_io.proofs.Going.{tells_always}
 use Rattle.command_spec.specs.Numbers.{AreTooMany}
 use Rattle.command_spec.specs.Restore.{Piece, GivingEnd, Restored, LostIn, MismatchIn, IsRead, PieceEnds, Restores}
 use Rattle.command_laws.specs.RestoreTerms.{act_of}
 use Rattle.command_laws.proofs.RestoreEndings.{restores_is_function}
 use Rattle.command_laws.specs.OutputText.{printed}
-use Rattle.volume_output.specs.Output.{GaveVolume, VolumeCut}
+use Rattle.volume_output.specs.Output.{GaveVolume, VolumeCut, OutputEnds}
 use Rattle.volume_output.specs.Piece.{piece_of, printed_act, part_text}
 use Rattle.volume_output.proofs.Bytes.{Holds, data_bytes, count_of_bytes}
 use Rattle.volume_output.proofs.Joining.{printed_none, printed_steps, none_given}
@@ -28,6 +30,7 @@ use Rattle.qic_base.specs.SinkCalls as sink_calls
 use Rattle.qic_base.specs.Tape as tapes
 use Rattle.qic_base.specs.TapeCalls as tape_calls
 use Rattle.cartridge_spec.specs.Says as saying
+use Rattle.segment_io.specs.declared.fault.SegFault.TheVariants as seg
 
 -- ---- the act of a piece as it is printed
 
@@ -72,6 +75,19 @@ module _ (lined : Bool) (segment count : ℕ) (sectors : List (List ℕ)) (is : 
 
 -- ---- the ends
 
+-- what a reading answers by a fault
+abbrev failed_by : SegFault → Result ℕ SegFault
+failed_by why = Err why
+
+-- the reading of a segment ended by this fault
+pub record IsUnread {T : Type 0} (t : tapes.Meaning T) (segment mask : ℕ) (old new : T) (sectors : List (List ℕ)) (why : SegFault) :
+    Type 0 where
+  pub did : OnlyReads t old new (failed_by why)
+  pub solves : failed_by why ≢ failed_by seg.Tape →
+      tape_calls.Tells t old (λ c. Solves segment (cells_of c segment mask) sectors (failed_by why))
+  pub many : (named n : ℕ) → failed_by why ≡ failed_by (seg.Lost named n) → (named ≡ segment) × (3 < n) × (n ≤ 32)
+  pub mismatch : (named : ℕ) → failed_by why ≡ failed_by (seg.Mismatch named) → named ≡ segment
+
 module _ {T K : Type 0} (t : tapes.Meaning T) (k : sinks.Meaning K) (words : List ℕ) (segment count mask : ℕ)
     (is : mask ≡ mask_at words segment) (lined : Bool) (old new : T) where
   abbrev piece : Piece
@@ -88,7 +104,7 @@ module _ {T K : Type 0} (t : tapes.Meaning T) (k : sinks.Meaning K) (words : Lis
       subst (Went t no_source k (around old sink) (around new sink)) (sym (printed_none lined []))
       (record { did = did; wrote = record { took = none sink; later = omega arith }; source_later = omega arith })
 
-  pub lost : (sink : K) → ((x : K) → k.took x [] x) → tapes.Done t old new [] → (named n : ℕ) → named ≡ segment → AreTooMany n →
+  lost : (sink : K) → ((x : K) → k.took x [] x) → tapes.Done t old new [] → (named n : ℕ) → named ≡ segment → AreTooMany n →
       tape_calls.Tells t old (λ c. (named ≡ segment) × Says (cells_of c segment mask) (LostSectors n)) →
       GaveVolume t k words (piece ∷ []) lined (around old sink) (around new sink) (LostIn named n)
   lost sink none did named n same many told =
@@ -98,7 +114,7 @@ module _ {T K : Type 0} (t : tapes.Meaning T) (k : sinks.Meaning K) (words : Lis
       (λ c said. (said.0, said_lost n c said.1)) told)
       (many, sym same)
 
-  pub mismatch : (sink : K) → ((x : K) → k.took x [] x) → tapes.Done t old new [] → (named : ℕ) → named ≡ segment →
+  mismatch : (sink : K) → ((x : K) → k.took x [] x) → tapes.Done t old new [] → (named : ℕ) → named ≡ segment →
       tape_calls.Tells t old (λ c. (named ≡ segment) × Says (cells_of c segment mask) saying.Mismatch) →
       GaveVolume t k words (piece ∷ []) lined (around old sink) (around new sink) (MismatchIn named)
   mismatch sink none did named same told =
@@ -109,7 +125,7 @@ module _ {T K : Type 0} (t : tapes.Meaning T) (k : sinks.Meaning K) (words : Lis
       (sym same)
 
   -- the tape failed before the first act was done
-  pub unread : (sink : K) → ((x : K) → k.took x [] x) → tapes.Broke t old new [] →
+  unread : (sink : K) → ((x : K) → k.took x [] x) → tapes.Broke t old new [] →
       VolumeCut t k words (piece ∷ []) lined (around old sink) (around new sink) TapeFails
   unread sink none broke = record {
     told = tells_always t old
@@ -131,6 +147,16 @@ module _ {T K : Type 0} (t : tapes.Meaning T) (k : sinks.Meaning K) (words : Lis
         wrote = record { took = none sink; later = omega arith };
         source_later = omega arith;
       })
+
+  -- by the fault of its reading
+  pub not_read : (sectors : List (List ℕ)) (sink : K) → ((x : K) → k.took x [] x) → (why : SegFault) →
+      IsUnread t segment mask old new sectors why →
+      OutputEnds t k words (piece ∷ []) lined (around old sink) (around new sink) (Err (store_fault why))
+  not_read sectors sink none (seg.Lost named n) ends =
+      let so = ends.many named n refl in lost sink none ends.did named n so.0 (so.1, so.2) (ends.solves (λ same. cc))
+  not_read sectors sink none (seg.Mismatch named) ends =
+      mismatch sink none ends.did named (ends.mismatch named refl) (ends.solves (λ same. cc))
+  not_read sectors sink none seg.Tape ends = unread sink none ends.did
 
   -- ---- the segment was read
 

@@ -12,7 +12,7 @@ use Rattle.cartridge_spec.specs.Volumes.{carrying}
 use Rattle.cartridge_laws.proofs.MountWriting.{places_that, places_none, places_passes, places_fails}
 use Rattle.cartridge_laws.proofs.AppendSegments.{carries, carried, carrying_are}
 use Rattle.command_spec.specs.Restore.{Piece, Restored, pieces_of}
-use Rattle.volume_output.specs.declared.fault.OutputFault.{OutputFault}
+use Rattle.segment_io.specs.declared.fault.StoreFault.{StoreFault}
 use Rattle.volume_output.specs.Output.{GaveVolume, OutputEnds}
 use Rattle.volume_output.specs.Piece.{piece_of}
 use Rattle.volume_output.proofs.Joining.{gave_none, ends_behind, ends_there}
@@ -99,7 +99,7 @@ module _ (words : List ℕ) where
 abbrev pub GoesOn : {T K : Type 0} (t : tapes.Meaning T) (k : sinks.Meaning K) (words : List ℕ) (all left : List Piece) (lined : Bool)
     (start now : Outside T (Unit {0}) K) → Type 0
 GoesOn {T} {K} t k words all left lined start now =
-    (new : Outside T (Unit {0}) K) (result : Result (Unit {0}) OutputFault) → OutputEnds t k words left lined now new result →
+    (new : Outside T (Unit {0}) K) (result : Result (Unit {0}) StoreFault) → OutputEnds t k words left lined now new result →
     OutputEnds t k words all lined start new result
 
 module _ {T K : Type 0} (t : tapes.Meaning T) (k : sinks.Meaning K) (words : List ℕ) (all left : List Piece) (lined : Bool)
@@ -113,7 +113,7 @@ module _ {T K : Type 0} (t : tapes.Meaning T) (k : sinks.Meaning K) (words : Lis
   one_given both piece rest after same gave = λ new result ends.
       same_left (piece ∷ rest) same new result (ends_behind t k words lined piece rest now after both new result gave ends)
 
-  pub one_failed : (piece : Piece) (rest : List Piece) (after : Outside T (Unit {0}) K) (why : OutputFault) → left ≡ piece ∷ rest →
+  pub one_failed : (piece : Piece) (rest : List Piece) (after : Outside T (Unit {0}) K) (why : StoreFault) → left ≡ piece ∷ rest →
       OutputEnds t k words (piece ∷ []) lined now after (Err why) → OutputEnds t k words all lined start after (Err why)
   one_failed piece rest after why same ends =
       same_left (piece ∷ rest) same after (Err why) (ends_there t k words lined piece rest now after why ends)

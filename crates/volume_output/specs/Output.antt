@@ -5,11 +5,11 @@ use Rattle.command_spec.specs.Restore.{Piece, GivingEnd, Restores, Restored, Los
 use Rattle.command_laws.specs.RestoreTerms.{EndsAt}
 use Rattle.qic_base.specs.Acts.{Act, Outside, Went, Failing, Cut, TapeFails, SinkFails}
 use Rattle.qic_base.specs.Alone.{no_source}
-use Rattle.volume_output.specs.declared.fault.OutputFault.{OutputFault}
+use Rattle.segment_io.specs.declared.fault.StoreFault.{StoreFault}
 use Rattle.qic_base.specs.Sink as sinks
 use Rattle.qic_base.specs.Tape as tapes
 use Rattle.qic_base.specs.TapeCalls as tape_calls
-use Rattle.volume_output.specs.declared.fault.OutputFault.TheVariants as fault
+use Rattle.segment_io.specs.declared.fault.StoreFault.TheVariants as fault
 
 -- The pieces were read up to this ending, and the sink took their bytes.
 pub record GaveVolume {T K : Type 0} (t : tapes.Meaning T) (k : sinks.Meaning K) (words : List ℕ) (needed : List Piece) (lined : Bool)
@@ -33,9 +33,10 @@ pub record VolumeCut {T K : Type 0} (t : tapes.Meaning T) (k : sinks.Meaning K) 
 
 -- how it ended
 abbrev pub OutputEnds : {T K : Type 0} (t : tapes.Meaning T) (k : sinks.Meaning K) (words : List ℕ) (needed : List Piece) (lined : Bool)
-    (old new : Outside T (Unit {0}) K) → Result (Unit {0}) OutputFault → Type 0
+    (old new : Outside T (Unit {0}) K) → Result (Unit {0}) StoreFault → Type 0
 OutputEnds t k words needed lined old new (Ok done) = GaveVolume t k words needed lined old new Restored
 OutputEnds t k words needed lined old new (Err (fault.Lost segment lost)) = GaveVolume t k words needed lined old new (LostIn segment lost)
 OutputEnds t k words needed lined old new (Err (fault.Mismatch segment)) = GaveVolume t k words needed lined old new (MismatchIn segment)
 OutputEnds t k words needed lined old new (Err fault.Sink) = VolumeCut t k words needed lined old new SinkFails
 OutputEnds t k words needed lined old new (Err fault.Tape) = VolumeCut t k words needed lined old new TapeFails
+OutputEnds t k words needed lined old new (Err other) = ⊥

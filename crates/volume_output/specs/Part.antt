@@ -6,12 +6,12 @@ use Rattle.cartridge_spec.specs.Shape.{mask_at, data_count}
 use Rattle.command_spec.specs.Numbers.{AreTooMany}
 use Rattle.command_spec.specs.Restore.{Piece, PieceEnds, LostIn, MismatchIn, piece_cells}
 use Rattle.volume_output.specs.Piece.{piece_of}
-use Rattle.volume_output.specs.declared.fault.OutputFault.{OutputFault}
+use Rattle.segment_io.specs.declared.fault.StoreFault.{StoreFault}
 use Rattle.volume_output.specs.declared.part.PartRead.{PartRead}
 use Rattle.volume_output.specs.declared.part.Place.{Place}
 use Rattle.qic_base.specs.Tape as tapes
 use Rattle.qic_base.specs.TapeCalls as tape_calls
-use Rattle.volume_output.specs.declared.fault.OutputFault.TheVariants as fault
+use Rattle.segment_io.specs.declared.fault.StoreFault.TheVariants as fault
 
 -- the piece that a place is
 abbrev pub piece_at : Place → Piece
@@ -48,7 +48,7 @@ pub record MismatchesPiece {T : Type 0} (t : tapes.Meaning T) (words : List ℕ)
 
 -- how the reading of the piece with a number ended: without one nothing was read
 abbrev pub PartEnds : {T : Type 0} (t : tapes.Meaning T) (words : List ℕ) (needed : List Piece) (number : ℕ) (old new : T)
-    (sectors : List (List ℕ)) → Result (Option PartRead) OutputFault → Type 0
+    (sectors : List (List ℕ)) → Result (Option PartRead) StoreFault → Type 0
 PartEnds t words needed number old new sectors (Ok None) = (slice_get needed number ≡ None) × (new ≡ old)
 PartEnds t words needed number old new sectors (Ok (Some part)) =
     OfPiece needed number (λ piece. ReadsPiece t words piece old new (take part.sectors sectors) part.bytes)
@@ -56,5 +56,5 @@ PartEnds t words needed number old new sectors (Err (fault.Lost segment lost)) =
     OfPiece needed number (λ piece. LosesPiece t words piece old new segment lost)
 PartEnds t words needed number old new sectors (Err (fault.Mismatch segment)) =
     OfPiece needed number (λ piece. MismatchesPiece t words piece old new segment)
-PartEnds t words needed number old new sectors (Err fault.Sink) = ⊥
 PartEnds t words needed number old new sectors (Err fault.Tape) = OfPiece needed number (λ piece. tapes.Broke t old new [])
+PartEnds t words needed number old new sectors (Err other) = ⊥

@@ -3,7 +3,6 @@
 #![tactic(auto)]
 
 mod extent;
-mod fault;
 mod form;
 mod output;
 mod part;
@@ -11,7 +10,6 @@ mod piece;
 mod sectors;
 
 pub use extent::Extent;
-pub use fault::OutputFault;
 pub use form::Form;
 pub use output::give_volume;
 pub use part::{PartRead, read_part};

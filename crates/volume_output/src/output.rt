@@ -12,7 +12,6 @@ ghost use Rattle.volume_output.specs.Form.{is_lined};
 ghost use Rattle.volume_output.specs.Output.{OutputEnds};
 
 use crate::extent::Extent;
-use crate::fault::OutputFault;
 use crate::form::Form;
 use crate::part::Place;
 use crate::piece::write_piece;
@@ -20,7 +19,7 @@ use bad_sector_map::BadMap;
 use drive_states::Unit;
 use host_driver::Host;
 use qic_base::{Sink, Tape};
-use segment_io::Workspace;
+use segment_io::{StoreFault, Workspace};
 
 /// Reads a volume's first bytes, as many as are asked for, segment by segment, and hands each segment's bytes to the sink
 /// in this form, once the whole segment agrees. A segment that holds none of these bytes is not read. The first one that
@@ -33,7 +32,7 @@ pub fn give_volume<T: Tape, K: Sink>(
     form: Form,
     work: &mut Workspace,
     sink: &mut K,
-) -> Result<(), OutputFault>
+) -> Result<(), StoreFault>
     requires ready { IsReady T.means host.old unit.old }
     requires mode { reads_in unit.old.drive.deck.mode ≡ true }
     requires referenced { is_referenced unit.old.drive.deck ≡ true }

@@ -12,12 +12,11 @@ ghost use Rattle.command_spec.specs.Restore.{pieces_of};
 ghost use Rattle.volume_output.specs.Part.{PartEnds, piece_at};
 
 use crate::extent::Extent;
-use crate::fault::OutputFault;
 use bad_sector_map::BadMap;
 use drive_states::Unit;
 use host_driver::Host;
 use qic_base::Tape;
-use segment_io::{SegFault, Workspace, read_segment};
+use segment_io::{StoreFault, Workspace, read_segment};
 
 /// A piece of a volume that was read: how many bytes of the volume lie in its segment, 1 or more, and how many data
 /// sectors the segment has. They stand in the first places of the workspace.
@@ -69,7 +68,7 @@ pub fn read_part<T: Tape>(
     volume: Extent,
     number: u32,
     work: &mut Workspace,
-) -> Result<Option<PartRead>, OutputFault>
+) -> Result<Option<PartRead>, StoreFault>
     requires ready { IsReady T.means host.old unit.old }
     requires mode { reads_in unit.old.drive.deck.mode ≡ true }
     requires referenced { is_referenced unit.old.drive.deck ≡ true }
@@ -86,13 +85,9 @@ pub fn read_part<T: Tape>(
         None => return Ok(None),
     };
     let usable = map.usable(place.segment);
-    match read_segment(host, unit, place.segment, usable, work) {
-        Ok(_) => Ok(Some(PartRead {
-            bytes: place.count,
-            sectors: map.capacity(place.segment) / 1024,
-        })),
-        Err(SegFault::Lost { segment, lost }) => Err(OutputFault::Lost { segment, lost }),
-        Err(SegFault::Mismatch { segment }) => Err(OutputFault::Mismatch { segment }),
-        Err(SegFault::Tape) => Err(OutputFault::Tape),
-    }
+    read_segment(host, unit, place.segment, usable, work)?;
+    Ok(Some(PartRead {
+        bytes: place.count,
+        sectors: map.capacity(place.segment) / 1024,
+    }))
 }

@@ -11,14 +11,13 @@ ghost use Rattle.volume_output.specs.Form.{is_lined};
 ghost use Rattle.volume_output.specs.Output.{OutputEnds};
 ghost use Rattle.volume_output.specs.Piece.{piece_of, part_text};
 
-use crate::fault::OutputFault;
 use crate::form::Form;
 use crate::part::Place;
 use crate::sectors::write_bytes;
 use drive_states::Unit;
 use host_driver::Host;
 use qic_base::{Sector, Sink, SinkFailed, Tape, write_text};
-use segment_io::{SegFault, Workspace, read_segment};
+use segment_io::{StoreFault, Workspace, read_segment};
 use tape_script::TextLine;
 
 /// Reads the segment of a piece, with these usable sectors, and hands the piece's bytes to the sink once it agrees.
@@ -30,7 +29,7 @@ pub(crate) fn write_piece<T: Tape, K: Sink>(
     form: Form,
     work: &mut Workspace,
     sink: &mut K,
-) -> Result<(), OutputFault>
+) -> Result<(), StoreFault>
     requires ready { IsReady T.means host.old unit.old }
     requires segment { HasSegment unit.old.drive.deck place.segment usable }
     requires mode { reads_in unit.old.drive.deck.mode ≡ true }
@@ -40,16 +39,9 @@ pub(crate) fn write_piece<T: Tape, K: Sink>(
         (around unit.old.tape sink.old) (around unit.new.tape sink.new) result }
     ensures keeps { Keeps T.means host.new unit.old unit.new }
 {
-    match read_segment(host, unit, place.segment, usable, work) {
-        Ok(_) => {}
-        Err(SegFault::Lost { segment, lost }) => return Err(OutputFault::Lost { segment, lost }),
-        Err(SegFault::Mismatch { segment }) => return Err(OutputFault::Mismatch { segment }),
-        Err(SegFault::Tape) => return Err(OutputFault::Tape),
-    }
-    match write_part(work.sectors(), place.count, form, sink) {
-        Ok(()) => Ok(()),
-        Err(SinkFailed) => Err(OutputFault::Sink),
-    }
+    read_segment(host, unit, place.segment, usable, work)?;
+    write_part(work.sectors(), place.count, form, sink)?;
+    Ok(())
 }
 
 /// Writes the first `count` bytes of the sectors in this form.

@@ -1,6 +1,6 @@
 -- An append of a script, by what the store's append answered.
 use Rattle.std.proofs.Common.{◌≡◌, ◌≢◌, ℕ, ◌+◌, ◌≤◌, true, false, List, [], ◌∷◌, ◌++◌, length, take, drop, Option, Some, None, Result, Ok}
-use Rattle.std.proofs.Common.{Err, IfSome, IfNone, refl, sym, ap, ◌∙◌, subst, arith, inl, inr, append-nil}
+use Rattle.std.proofs.Common.{Bool, cond, nat_lt, Err, IfSome, IfNone, refl, sym, ap, ◌∙◌, subst, arith, inl, inr, append-nil}
 use Rattle.std.specs.Option.{option_map}
 use Rattle.std.specs.Prelude.{◌↔◌}
 use Rattle.std.proofs.lemmas.List.{length-append, length-take-le}
@@ -25,20 +25,20 @@ use Rattle.qic_base.proofs.Giving.{Gave-Gave}
 use Rattle.tape_script.proofs.Rests.{whole_told}
 use Rattle.command_spec.specs.Lines.{appended_line, reply_behind}
 use Rattle.volume_store.specs.declared.appended.Appended.{Appended}
-use Rattle.command_spec.specs.Append.{Kept, Taking, Fits, TooLong, TooShort, taking, room_in, append_acts, kept_over}
+use Rattle.command_spec.specs.Append.{Kept, Taking, Fits, TooLong, TooShort, taking, room_in, append_acts, kept_over, has_promised_room}
 use Rattle.command_laws.specs.AppendTerms.{entry_for, silently}
 use Rattle.volume_store.specs.Appending.{kept_by, AppendRan, HasAppended, TableRefused, AppendCut, CutUnread, KeepsList}
 use Rattle.volume_store.specs.Mounting.{StoreView, StoreFits}
 use Rattle.drive_spec.specs.Terms.{is_protected}
 use Rattle.drive_states.specs.Unit.{UnitView}
-use Rattle.volume_script.specs.declared.fault.ItemFault.{ItemFault}
 use Rattle.volume_script.specs.declared.limited.Limited.{Limited}
 use Rattle.command_spec.specs.declared.refusal.Refusal.{Refusal}
 use Rattle.command_laws.specs.ScriptItems.{EarlyDoes}
-use Rattle.volume_script.specs.Items.{ItemDone, ItemShort, ItemCut, ItemEnds, WouldDo}
+use Rattle.volume_script.specs.Items.{ItemDone, ItemShort, ItemCut, ItemEnds, ItemMismatched, WouldDo}
 use Rattle.volume_script.specs.Limited.{limited_means}
 use Rattle.command_spec.specs.Script.{refusal_line, Did, LineDoes, Meeting, Finds, Meets, acts_on, line_refused, reply, taken_as}
-use Rattle.volume_script.specs.Promised.{RanPromised, Refuses, replied_so}
+use Rattle.volume_script.specs.Promised.{RanPromised}
+use Rattle.volume_script.specs.Refusing.{Refuses, TakesFirst, replied_so}
 use Rattle.command_laws.proofs.ScriptActs.{same_acts, same_taking, took_enough, took_too_long, took_short, full_acts, full_taking}
 use Rattle.command_laws.proofs.ScriptActs.{short_acts, fits_acts, front_acts, front_and_last, replied_steps, replied_text, input_texts}
 use Rattle.command_laws.proofs.ScriptGiven.{gave_all, gave_few, Behind}
@@ -46,7 +46,7 @@ use Rattle.command_laws.proofs.ScriptLifting.{TakesNone, read_went, read_cut, re
 use Rattle.volume_script.proofs.Content.{BehindBytes, GivenAs, any_bytes, behind_bytes, content_both, given_as, limit_untold, taken_content}
 use Rattle.volume_script.proofs.Quiet.{unmarked}
 use Rattle.command_laws.proofs.ScriptPlain.{line_one, meets_one}
-use Rattle.cartridge_front.specs.declared.fault.StoreFault.{StoreFault}
+use Rattle.segment_io.specs.declared.fault.StoreFault.{StoreFault}
 use Rattle.cartridge_laws.proofs.MountOnce.{not_lost}
 use Rattle.volume_store.proofs.Taking.{front_of}
 use Rattle.qic_base.specs.Disk.{AreBytes}
@@ -59,8 +59,7 @@ use Rattle.qic_base.specs.Source as sources
 use Rattle.qic_base.specs.Tape as tapes
 use Rattle.qic_base.specs.TapeCalls as tape_calls
 use Rattle.command_spec.specs.declared.line.Line.TheVariants as line
-use Rattle.cartridge_front.specs.declared.fault.StoreFault.TheVariants as store_fault
-use Rattle.volume_script.specs.declared.fault.ItemFault.TheVariants as fault
+use Rattle.segment_io.specs.declared.fault.StoreFault.TheVariants as fault
 use Rattle.command_spec.specs.declared.refusal.Refusal.TheVariants as why
 use Rattle.command_spec.specs.Script as script
 
@@ -80,6 +79,13 @@ would_be c words entries asked bytes rest long did does acts (inl (other, (more,
     let again : LineDoes c words entries asked bytes did' = subst (λ (bs : List ℕ). LineDoes c words entries asked bs did') first does' in
     ap (λ (d : Did). d.acts) (sym (line_one c words entries asked bytes did did' does again)) ∙ same
 would_be c words entries asked bytes rest long did does acts (inr (short, early)) = absurd (let l = length-append bytes rest in omega arith)
+
+-- a short input is one of as many bytes as are asked for
+asked_of : (b d : Bool) (n have read : ℕ) (first : List ℕ) (asked got : ℕ) → cond b (cond d (TooShort n read) (Fits first))
+    (TooLong n have) ≡ TooShort asked got → asked ≡ n
+asked_of true true n have read first asked got is = cc
+asked_of true false n have read first asked got is = absurd (cc)
+asked_of false d n have read first asked got is = absurd (cc)
 
 -- what a cartridge without a mark meets where it says these data
 abbrev Known : (store : StoreView) (table : List (List ℕ)) (settling : List Step) → Cartridge → Type 0
@@ -305,7 +311,8 @@ module _ {T S K : Type 0} (t : tapes.Meaning T) (s : sources.Meaning S) (k : sin
     pub came_short : (asked_for got : ℕ)
         (short : AppendRan t (limited_means s) (reading a ran.before) (reading b ran.behind) store name date (Some promised)
         (TooShort asked_for got)) →
-        tape_calls.Tells t a (λ c. c.info.protected ≡ false) → ItemShort t s k store (outside a i x) (outside b j x) asked
+        tape_calls.Tells t a (λ c. c.info.protected ≡ false) → (asked_for ≡ promised)
+        × ItemShort t s k store (outside a i x) (outside b j x) asked got
     came_short asked_for got short free =
         let kept : Kept = kept_by store short.table short.settling in
         let few = took_short (room_in kept) promised short.input asked_for got short.took in
@@ -314,23 +321,42 @@ module _ {T S K : Type 0} (t : tapes.Meaning T) (s : sources.Meaning S) (k : sin
         (limit_left (length short.input)
         (short.left ∙ ap (λ (n : ℕ). option_map (drop n) (option_map (take ran.before.left) (s.left ran.before.source.now))) few.1)) in
         let acts : List Act = append_acts kept name date (Some promised) silently short.input in
-        record {
-          bytes = short.input;
-          short = few.0;
-          gave = gave.gave;
-          content = limit_content short.input short.content;
-          ended = gave.ended;
-          acts = acts;
-          went = lift acts short.went;
-          told = Tells-map t a (Known store short.table short.settling) (λ c. EarlyDoes c store.words store.entries asked short.input acts)
-              (λ c known. (
-                Finds short.table,
-                (known.1, known.0.0),
-                short_acts kept name date promised silently reply_of short.input asked_for got short.took
-                    ∙ ap (λ (ss : List Step). append_acts (kept_by store short.table ss) name date (Some promised) reply_of short.input)
-                    known.0.1,
-              )) (known_so free short.table short.settling short.known);
-        }
+        let all : asked_for ≡ promised =
+        asked_of (has_promised_room (room_in kept) (Some promised)) (nat_lt (length short.input) promised) promised (room_in kept)
+        (length short.input) (take promised short.input) asked_for got short.took in (
+          all,
+          record {
+            bytes = short.input;
+            all = sym few.1;
+            short = few.0;
+            gave = gave.gave;
+            content = limit_content short.input short.content;
+            ended = gave.ended;
+            acts = acts;
+            went = lift acts short.went;
+            told = Tells-map t a (Known store short.table short.settling)
+                (λ c. EarlyDoes c store.words store.entries asked short.input acts)
+                (λ c known. (
+                  Finds short.table,
+                  (known.1, known.0.0),
+                  short_acts kept name date promised silently reply_of short.input asked_for got short.took
+                      ∙ ap (λ (ss : List Step). append_acts (kept_by store short.table ss) name date (Some promised) reply_of short.input)
+                      known.0.1,
+                )) (known_so free short.table short.settling short.known);
+          },
+        )
+
+    -- ---- the table did not show the list
+
+    pub came_mismatch : TableRefused t (limited_means s) (reading a ran.before) (reading b ran.behind) (λ c. ⊥) → ItemMismatched t s k
+        (outside a i x) (outside b j x)
+    came_mismatch refusal = record {
+      acts = refusal.acts;
+      went = lift refusal.acts refusal.went;
+      told = Tells-map t a (λ c. (refusal.acts ≡ []) × (ran.behind ≡ ran.before) × ⊥) (λ c. ⊥) (λ c says. says.2) refusal.told;
+      bytes = ran.lends.gave.0;
+      gave = was_given;
+    }
 
     -- ---- a fault of the outside
 
@@ -529,7 +555,7 @@ module _ {T S K : Type 0} (t : tapes.Meaning T) (s : sources.Meaning S) (k : sin
       all_long : (bytes : List ℕ) → length bytes ≡ left → length (ran.lends.gave.0 ++ bytes) ≡ promised
       all_long bytes long = (let l = length-append ran.lends.gave.0 bytes in let g = given_long in let c = counted in omega arith)
 
-      pub refused_ends : (r : Result (Unit {0}) ItemFault) → Refuses s k j j2 x y left refusal r →
+      pub refused_ends : (r : Result (Unit {0}) StoreFault) → TakesFirst s k j j2 x y promised left refusal r →
           ItemEnds t s k store after (outside a i x) (outside b j2 y) asked r
       refused_ends (Ok done) (all, wrote) = let given = given_so all.bytes all.gave in record {
         bytes = given.bytes;
@@ -540,19 +566,25 @@ module _ {T S K : Type 0} (t : tapes.Meaning T) (s : sources.Meaning S) (k : sin
         went = replied_went t s k both (outside a i x) b j2 x y acts (refusal_line refusal) (later_went all.later) wrote;
         told = does_so given.bytes after.entries same;
       }
-      refused_ends (Err fault.Short) (short, sink) = subst (λ (z : K). ItemShort t s k store (outside a i x) (outside b j2 z) asked)
-          (sym sink) (let given = given_so short.bytes short.gave in record {
-            bytes = given.bytes;
-            short = (let same = given.long in let l = length-append ran.lends.gave.0 short.bytes in let g = given_long in let c = counted in
-                let f = short.short in omega arith);
-            gave = given.gave;
-            content = given.content;
-            ended = short.ended;
-            acts = acts;
-            went = later_went short.later;
-            told = Tells-map t a _ (λ c. EarlyDoes c store.words store.entries asked given.bytes acts)
-                (λ c known. (known.0, known.1, sym (known.2.0 given.bytes))) refusing.told;
-          })
+      refused_ends (Err (fault.Short all read)) (same, short, sink) = (
+        same,
+        subst (λ (z : K). ItemShort t s k store (outside a i x) (outside b j2 z) asked read)
+            (sym sink) (let given = given_so short.bytes short.gave in record {
+              bytes = given.bytes;
+              all = (let same = given.long in let l = length-append ran.lends.gave.0 short.bytes in let g = given_long in let c = counted in
+                  let f = short.there in omega arith);
+              short = (let same = given.long in let l = length-append ran.lends.gave.0 short.bytes in
+                  let g = given_long in let c = counted in
+                  let f = short.short in omega arith);
+              gave = given.gave;
+              content = given.content;
+              ended = short.ended;
+              acts = acts;
+              went = later_went short.later;
+              told = Tells-map t a _ (λ c. EarlyDoes c store.words store.entries asked given.bytes acts)
+                  (λ c known. (known.0, known.1, sym (known.2.0 given.bytes))) refusing.told;
+            }),
+      )
       refused_ends (Err fault.Sink) (all, broke) =
           let given = given_so all.bytes all.gave in
           let bytes : List ℕ = given.bytes in
@@ -622,8 +654,7 @@ module _ {T S K : Type 0} (t : tapes.Meaning T) (s : sources.Meaning S) (k : sin
               let acts_are : acts ≡ zs = sym (alone rest)
               ∙ ap (λ (m : Meeting). acts_on c store.words store.entries name promised date rest m) (sym one) ∙ sym too in
               subst (λ (ws : List Act). Cut t s k (outside a i x) (outside b j2 x) ws SourceFails) acts_are cut
-      refused_ends (Err fault.TableMismatch) never = absurd never
-      refused_ends (Err fault.Tape) never = absurd never
+      refused_ends (Err other) never = absurd never
 
 -- ---- by the answer
 
@@ -631,15 +662,15 @@ module _ {T S K : Type 0} (t : tapes.Meaning T) (s : sources.Meaning S) (k : sin
     (promised date : ℕ) (both : TakesBoth k) (none : TakesNone k) (u : UnitView T) (b : T) (i j : S) (x : K)
     (left : ℕ) (answer : Result Appended StoreFault) (ran : RanPromised t s u.tape b i j store after name date promised left answer)
     (fits : StoreFits t store u)
-    (mark : (answer ≡ Err store_fault.Protected) ↔ (is_protected u.drive.deck ≡ true)) (list : KeepsList answer store after) where
+    (mark : (answer ≡ Err fault.Protected) ↔ (is_protected u.drive.deck ≡ true)) (list : KeepsList answer store after) where
   ran_as : (r : Result Appended StoreFault) → answer ≡ r → RanPromised t s u.tape b i j store after name date promised left r
   ran_as r is = subst (λ (r : Result Appended StoreFault). RanPromised t s u.tape b i j store after name date promised left r) is ran
 
   list_as : (r : Result Appended StoreFault) → answer ≡ r → KeepsList r store after
   list_as r is = subst (λ (r : Result Appended StoreFault). KeepsList r store after) is list
 
-  free : ¬ (answer ≡ Err store_fault.Protected) → tape_calls.Tells t u.tape (λ c. c.info.protected ≡ false)
-  free other = told_mark t store u fits false (unmarked (is_protected u.drive.deck) (answer ≡ Err store_fault.Protected) mark other)
+  free : ¬ (answer ≡ Err fault.Protected) → tape_calls.Tells t u.tape (λ c. c.info.protected ≡ false)
+  free other = told_mark t store u fits false (unmarked (is_protected u.drive.deck) (answer ≡ Err fault.Protected) mark other)
 
   pub by_ok : (y : K) (answered : Appended) → answer ≡ Ok answered → (r : Result (Unit {0}) SinkFailed) →
       sink_calls.Writes k x y (appended_line answered.number answered.bytes answered.start answered.end) r →
@@ -649,58 +680,87 @@ module _ {T S K : Type 0} (t : tapes.Meaning T) (s : sources.Meaning S) (k : sin
       appended_ends t s k store after name promised date both none u.tape b i j x left (Ok answered) as_ok y answered as_ok.ends
       (free (λ e. let no = sym is ∙ e in cc)) r wrote
 
-  pub by_full : (need have : ℕ) → answer ≡ Err (store_fault.Full need have) → (j2 : S) (y : K) (r : Result (Unit {0}) ItemFault) →
-      Refuses s k j j2 x y left (why.Full need have) r →
+  by_full : (need have : ℕ) → answer ≡ Err (fault.Full need have) → (j2 : S) (y : K) (r : Result (Unit {0}) StoreFault) →
+      TakesFirst s k j j2 x y promised left (why.Full need have) r →
       ItemEnds t s k store after (outside u.tape i x) (outside b j2 y) (line.Append name promised date) r
   by_full need have is j2 y r refuses =
-      let as_full = ran_as (Err (store_fault.Full need have)) is in
-      refused_ends t s k store after name promised date both none u.tape b i j x left (Err (store_fault.Full need have)) as_full
-      (list_as (Err (store_fault.Full need have)) is) (quiet as_full.ends.settling ∷ []) (why.Full need have)
-      (refusing_full t s k store after name promised date both none u.tape b i j x left (Err (store_fault.Full need have)) as_full need have
+      let as_full = ran_as (Err (fault.Full need have)) is in
+      refused_ends t s k store after name promised date both none u.tape b i j x left (Err (fault.Full need have)) as_full
+      (list_as (Err (fault.Full need have)) is) (quiet as_full.ends.settling ∷ []) (why.Full need have)
+      (refusing_full t s k store after name promised date both none u.tape b i j x left (Err (fault.Full need have)) as_full need have
       (free (λ e. let no = sym is ∙ e in cc)) as_full.ends) j2 y r refuses
 
-  pub by_lost : (segment lost : ℕ) → answer ≡ Err (store_fault.Lost segment lost) → (j2 : S) (y : K) (r : Result (Unit {0}) ItemFault) →
-      Refuses s k j j2 x y left (why.Lost segment lost) r →
+  by_lost : (segment lost : ℕ) → answer ≡ Err (fault.Lost segment lost) → (j2 : S) (y : K) (r : Result (Unit {0}) StoreFault) →
+      TakesFirst s k j j2 x y promised left (why.Lost segment lost) r →
       ItemEnds t s k store after (outside u.tape i x) (outside b j2 y) (line.Append name promised date) r
   by_lost segment lost is j2 y r refuses =
-      let as_lost = ran_as (Err (store_fault.Lost segment lost)) is in
-      refused_ends t s k store after name promised date both none u.tape b i j x left (Err (store_fault.Lost segment lost)) as_lost
-      (list_as (Err (store_fault.Lost segment lost)) is) as_lost.ends.2.acts (why.Lost segment lost)
+      let as_lost = ran_as (Err (fault.Lost segment lost)) is in
+      refused_ends t s k store after name promised date both none u.tape b i j x left (Err (fault.Lost segment lost)) as_lost
+      (list_as (Err (fault.Lost segment lost)) is) as_lost.ends.2.acts (why.Lost segment lost)
       (refusing_lost t s k store after name promised date both none u.tape b i j x left
-      (Err (store_fault.Lost segment lost)) as_lost segment lost as_lost.ends.0 (free (λ e. let no = sym is ∙ e in cc)) as_lost.ends.2)
+      (Err (fault.Lost segment lost)) as_lost segment lost as_lost.ends.0 (free (λ e. let no = sym is ∙ e in cc)) as_lost.ends.2)
       j2 y r refuses
 
-  pub by_protected : answer ≡ Err store_fault.Protected → (j2 : S) (y : K) (r : Result (Unit {0}) ItemFault) →
-      Refuses s k j j2 x y left why.Protected r →
+  by_protected : answer ≡ Err fault.Protected → (j2 : S) (y : K) (r : Result (Unit {0}) StoreFault) →
+      TakesFirst s k j j2 x y promised left why.Protected r →
       ItemEnds t s k store after (outside u.tape i x) (outside b j2 y) (line.Append name promised date) r
   by_protected is j2 y r refuses =
-      let as_refused = ran_as (Err store_fault.Protected) is in
-      refused_ends t s k store after name promised date both none u.tape b i j x left (Err store_fault.Protected) as_refused
-      (list_as (Err store_fault.Protected) is) [] why.Protected
-      (refusing_protected t s k store after name promised date both none u.tape b i j x left (Err store_fault.Protected) as_refused
+      let as_refused = ran_as (Err fault.Protected) is in
+      refused_ends t s k store after name promised date both none u.tape b i j x left (Err fault.Protected) as_refused
+      (list_as (Err fault.Protected) is) [] why.Protected
+      (refusing_protected t s k store after name promised date both none u.tape b i j x left (Err fault.Protected) as_refused
       (told_mark t store u fits true (mark.0 is)) as_refused.ends.1 as_refused.ends.0) j2 y r refuses
 
-  pub by_short : (asked_for got : ℕ) → answer ≡ Err (store_fault.Short asked_for got) → ItemShort t s k store (outside u.tape i x)
-      (outside b j x) (line.Append name promised date)
+  by_short : (asked_for got : ℕ) → answer ≡ Err (fault.Short asked_for got) → (asked_for ≡ promised)
+      × ItemShort t s k store (outside u.tape i x) (outside b j x) (line.Append name promised date) got
   by_short asked_for got is =
-      let as_short = ran_as (Err (store_fault.Short asked_for got)) is in
+      let as_short = ran_as (Err (fault.Short asked_for got)) is in
       came_short t s k store after name promised date both none u.tape b i j x left
-      (Err (store_fault.Short asked_for got)) as_short asked_for got as_short.ends (free (λ e. let no = sym is ∙ e in cc))
+      (Err (fault.Short asked_for got)) as_short asked_for got as_short.ends (free (λ e. let no = sym is ∙ e in cc))
 
-  pub by_source : answer ≡ Err store_fault.Source → ItemCut t s k store (outside u.tape i x) (outside b j x)
+  by_source : answer ≡ Err fault.Source → ItemCut t s k store (outside u.tape i x) (outside b j x)
       (line.Append name promised date) SourceFails
   by_source is =
-      let as_cut = ran_as (Err store_fault.Source) is in
-      failed t s k store after name promised date both none u.tape b i j x left (Err store_fault.Source) as_cut SourceFails
+      let as_cut = ran_as (Err fault.Source) is in
+      failed t s k store after name promised date both none u.tape b i j x left (Err fault.Source) as_cut SourceFails
       (λ e. cc) as_cut.ends as_cut.unread (free (λ e. let no = sym is ∙ e in cc))
 
-  pub by_tape : answer ≡ Err store_fault.Tape → ItemCut t s k store (outside u.tape i x) (outside b j x)
+  by_tape : answer ≡ Err fault.Tape → ItemCut t s k store (outside u.tape i x) (outside b j x)
       (line.Append name promised date) TapeFails
   by_tape is =
-      let as_cut = ran_as (Err store_fault.Tape) is in
-      failed t s k store after name promised date both none u.tape b i j x left (Err store_fault.Tape) as_cut TapeFails
+      let as_cut = ran_as (Err fault.Tape) is in
+      failed t s k store after name promised date both none u.tape b i j x left (Err fault.Tape) as_cut TapeFails
       (λ e. cc) as_cut.ends as_cut.unread (free (λ e. let no = sym is ∙ e in cc))
 
--- an answer that is a fault, and the fault
-pub is_err : (r : Result Appended StoreFault) (f g : StoreFault) → r ≡ Err f → f ≡ g → r ≡ Err g
-is_err r f g is same = is ∙ ap (λ (h : StoreFault). Err h) same
+  by_mismatch : answer ≡ Err fault.TableMismatch → ItemMismatched t s k (outside u.tape i x) (outside b j x)
+  by_mismatch is =
+      let as_refused = ran_as (Err fault.TableMismatch) is in
+      came_mismatch t s k store after name promised date both none u.tape b i j x left (Err fault.TableMismatch) as_refused as_refused.ends
+
+  -- a fault that ends the script was answered at once
+  at_once : (f : StoreFault) → ItemEnds t s k store after (outside u.tape i x) (outside b j x) (line.Append name promised date) (Err f) →
+      (j2 : S) (y : K) (r : Result (Unit {0}) StoreFault) → (j2 ≡ j) × (y ≡ x) × (r ≡ Err f) →
+      ItemEnds t s k store after (outside u.tape i x) (outside b j2 y) (line.Append name promised date) r
+  at_once f ends j2 y r (source, sink, is) =
+      subst (λ (q : S). ItemEnds t s k store after (outside u.tape i x) (outside b q y) (line.Append name promised date) r) (sym source)
+      (subst (λ (z : K). ItemEnds t s k store after (outside u.tape i x) (outside b j z) (line.Append name promised date) r) (sym sink)
+      (subst (λ (e : Result (Unit {0}) StoreFault). ItemEnds t s k store after (outside u.tape i x) (outside b j x)
+      (line.Append name promised date) e) (sym is) ends))
+
+  pub by_fault : (f : StoreFault) → answer ≡ Err f → (j2 : S) (y : K) (r : Result (Unit {0}) StoreFault) →
+      Refuses s k j j2 x y promised left f r →
+      ItemEnds t s k store after (outside u.tape i x) (outside b j2 y) (line.Append name promised date) r
+  by_fault (fault.Full need have) is j2 y r refuses = by_full need have is j2 y r refuses
+  by_fault (fault.Lost segment lost) is j2 y r refuses = by_lost segment lost is j2 y r refuses
+  by_fault fault.Protected is j2 y r refuses = by_protected is j2 y r refuses
+  by_fault (fault.Short all read) is j2 y r refuses = at_once (fault.Short all read) (by_short all read is) j2 y r refuses
+  by_fault fault.TableMismatch is j2 y r refuses = at_once fault.TableMismatch (by_mismatch is) j2 y r refuses
+  by_fault fault.Source is j2 y r refuses = at_once fault.Source (by_source is) j2 y r refuses
+  by_fault fault.Tape is j2 y r refuses = at_once fault.Tape (by_tape is) j2 y r refuses
+  by_fault other is j2 y r refuses = let ran_so = ran_as (Err other) is in absurd ran_so.ends
+
+-- a fault of the tape is answered
+pub tape_refused : {S K : Type 0} (s : sources.Meaning S) (k : sinks.Meaning K) (i j : S) (x y : K) (promised left : ℕ) (f : StoreFault)
+    (r : Result (Unit {0}) StoreFault) → Refuses s k i j x y promised left f r → f ≡ fault.Tape → r ≡ Err fault.Tape
+tape_refused s k i j x y promised left f r refuses is =
+    let answered = subst (λ (g : StoreFault). Refuses s k i j x y promised left g r) is refuses in answered.2

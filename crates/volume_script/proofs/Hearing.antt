@@ -180,8 +180,9 @@ module _ {T S K : Type 0} (t : tapes.Meaning T) (s : sources.Meaning S) (k : sin
         told = done.told;
       }
 
-      pub heard_short : ItemShort t s k store (outside a m x) (outside b j y) asked → HeardShort t s k store (outside a i x) (outside b j y)
-      heard_short short = record {
+      pub heard_short : (read : ℕ) → ItemShort t s k store (outside a m x) (outside b j y) asked read → HeardShort t s k store
+          (outside a i x) (outside b j y)
+      heard_short read short = record {
         asked = asked;
         text = text;
         is = is;

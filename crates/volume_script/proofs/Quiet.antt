@@ -32,10 +32,11 @@ use Rattle.command_spec.specs.Lines.{list_text, lost_line}
 use Rattle.volume_output.specs.Output.{GaveVolume, VolumeCut}
 use Rattle.volume_store.specs.Mounting.{StoreView, StoreFits}
 use Rattle.volume_store.specs.Restoring.{RestoreEnds}
+use Rattle.volume_store.specs.Scrubbing.{MendEnds}
 use Rattle.volume_script.specs.Items.{ItemDone, ItemCut, ItemEnds, WouldDo}
 use Rattle.command_spec.specs.Script.{refusal_line, Did, LineDoes, given_as, reply}
 use Rattle.command_laws.specs.ScriptTerms.{restored_line}
-use Rattle.volume_script.specs.Promised.{replied_so}
+use Rattle.volume_script.specs.Refusing.{RepliesTo, replied_so}
 use Rattle.command_laws.proofs.ScriptLifting.{TakesNone, printed_went, printed_cut, replied_went, replied_cut, rested}
 use Rattle.command_laws.proofs.ScriptPlain.{given, line_one}
 use Rattle.volume_script.proofs.Plain.{would_without}
@@ -51,7 +52,8 @@ use Rattle.qic_base.specs.TapeCalls as tape_calls
 use Rattle.drive_states.specs.declared.fault.HandFault.TheVariants as hand
 use Rattle.command_spec.specs.Restore as restoring
 use Rattle.command_spec.specs.declared.line.Line.TheVariants as line
-use Rattle.cartridge_front.specs.declared.fault.StoreFault.TheVariants as store_fault
+use Rattle.segment_io.specs.declared.fault.StoreFault.{StoreFault}
+use Rattle.segment_io.specs.declared.fault.StoreFault.TheVariants as fault
 use Rattle.command_spec.specs.declared.refusal.Refusal.TheVariants as why
 
 -- where an answer does not come that just a protected cartridge has
@@ -125,6 +127,21 @@ module _ {T S K : Type 0} (t : tapes.Meaning T) (s : sources.Meaning S) (k : sin
       known_cut SinkFails (record { acts = acts ++ reply text ∷ []; entries = store.entries })
       (replied_cut t s k both none (outside a i x) b i z y acts text went broke) told
 
+  -- a fault that ends the script was answered, and nothing was written behind it
+  passed : (z : K) (f : StoreFault) (r : Result (Unit {0}) StoreFault) → ItemEnds t s k store after (outside a i x)
+      (outside b i z) asked (Err f) →
+      (y ≡ z) × (r ≡ Err f) → ItemEnds t s k store after (outside a i x) (outside b i y) asked r
+  passed z f r ends (sink, is) =
+      subst (λ (w : K). ItemEnds t s k store after (outside a i x) (outside b i w) asked r) (sym sink)
+      (subst (λ (e : Result (Unit {0}) StoreFault). ItemEnds t s k store after (outside a i x) (outside b i z) asked e) (sym is) ends)
+
+  -- one that refuses the line was replied to
+  answered_so : (written : Result (Unit {0}) SinkFailed) (r : Result (Unit {0}) StoreFault) → r ≡ replied_so written →
+      ItemEnds t s k store after (outside a i x) (outside b i y) asked (replied_so written) → ItemEnds t s k store after (outside a i x)
+      (outside b i y) asked r
+  answered_so written r is ends =
+      subst (λ (e : Result (Unit {0}) StoreFault). ItemEnds t s k store after (outside a i x) (outside b i y) asked e) (sym is) ends
+
 -- ---- list
 
 pub listed : {T S K : Type 0} (t : tapes.Meaning T) (s : sources.Meaning S) (k : sinks.Meaning K) (store after : StoreView) (a : T) (i : S)
@@ -179,22 +196,22 @@ module _ {T S K : Type 0} (t : tapes.Meaning T) (s : sources.Meaning S) (k : sin
       gave_back e Restored (restored_line number (volume_length store.words e)) r numbered gave
       (subst (λ (n : ℕ). sink_calls.Writes k z y (restored_line number n) r) long wrote) refl
 
-  pub lost_ends : (segment lost : ℕ) (r : Result (Unit {0}) SinkFailed) → RestoreEnds t k store number true (around a x) (around b z)
-      (Err (store_fault.Lost segment lost)) →
+  lost_ends : (segment lost : ℕ) (r : Result (Unit {0}) SinkFailed) → RestoreEnds t k store number true (around a x) (around b z)
+      (Err (fault.Lost segment lost)) →
       sink_calls.Writes k z y (refusal_line (why.Lost segment lost)) r → ItemEnds t s k store after (outside a i x) (outside b i y) restores
       (replied_so r)
   lost_ends segment lost r (e, numbered, gave) wrote = gave_back e (LostIn segment lost)
       (refusal_line (why.Lost segment lost)) r numbered gave wrote refl
 
-  pub mismatch_ends : (segment : ℕ) (r : Result (Unit {0}) SinkFailed) → RestoreEnds t k store number true (around a x) (around b z)
-      (Err (store_fault.Mismatch segment)) →
+  mismatch_ends : (segment : ℕ) (r : Result (Unit {0}) SinkFailed) → RestoreEnds t k store number true (around a x) (around b z)
+      (Err (fault.Mismatch segment)) →
       sink_calls.Writes k z y (refusal_line (why.Mismatch segment)) r → ItemEnds t s k store after (outside a i x) (outside b i y) restores
       (replied_so r)
   mismatch_ends segment r (e, numbered, gave) wrote = gave_back e (MismatchIn segment)
       (refusal_line (why.Mismatch segment)) r numbered gave wrote refl
 
-  pub no_volume_ends : (asked count : ℕ) (r : Result (Unit {0}) SinkFailed) → RestoreEnds t k store number true (around a x) (around b z)
-      (Err (store_fault.NoVolume asked count)) →
+  no_volume_ends : (asked count : ℕ) (r : Result (Unit {0}) SinkFailed) → RestoreEnds t k store number true (around a x) (around b z)
+      (Err (fault.NoVolume asked count)) →
       sink_calls.Writes k z y (refusal_line (why.NoVolume asked count)) r → ItemEnds t s k store after (outside a i x)
       (outside b i y) restores (replied_so r)
   no_volume_ends asked count r none_given wrote =
@@ -208,7 +225,7 @@ module _ {T S K : Type 0} (t : tapes.Meaning T) (s : sources.Meaning S) (k : sin
       (tells_always t a (λ c. LineDoes c store.words store.entries restores []
       (record { acts = [] ++ reply text ∷ []; entries = store.entries })) (λ c. inl (none_given.none, refl))))
 
-  pub restore_cut : (failing : Failing) (e : Entry) → failing ≢ SourceFails → volume_at store.entries number ≡ Some e →
+  restore_cut : (failing : Failing) (e : Entry) → failing ≢ SourceFails → volume_at store.entries number ≡ Some e →
       VolumeCut t k store.words (pieces store.words e) true (around a x) (around b z) failing → ItemCut t s k store (outside a i x)
       (outside b i z) restores failing
   restore_cut failing e other numbered cut =
@@ -240,11 +257,30 @@ module _ {T S K : Type 0} (t : tapes.Meaning T) (s : sources.Meaning S) (k : sin
           (framed needed some.acts) some.ending failing
           (printed_cut t s k a b i i x z (framed needed some.acts) failing other (omega arith) was))
 
+  -- by the fault
+  pub restore_failed : (f : StoreFault) (r : Result (Unit {0}) StoreFault) → RestoreEnds t k store number true (around a x) (around b z)
+      (Err f) →
+      RepliesTo k z y f r → ItemEnds t s k store after (outside a i x) (outside b i y) restores r
+  restore_failed (fault.NoVolume asked count) r ends replies =
+      answered_so t s k store after restores refl a b i x y replies.written r replies.answered
+      (no_volume_ends asked count replies.written ends replies.wrote)
+  restore_failed (fault.Lost segment lost) r ends replies =
+      answered_so t s k store after restores refl a b i x y replies.written r replies.answered
+      (lost_ends segment lost replies.written ends replies.wrote)
+  restore_failed (fault.Mismatch segment) r ends replies =
+      answered_so t s k store after restores refl a b i x y replies.written r replies.answered
+      (mismatch_ends segment replies.written ends replies.wrote)
+  restore_failed fault.Sink r (e, numbered, cut) replies =
+      passed t s k store after restores refl a b i x y z fault.Sink r (restore_cut SinkFails e (λ e. cc) numbered cut) replies
+  restore_failed fault.Tape r (e, numbered, cut) replies =
+      passed t s k store after restores refl a b i x y z fault.Tape r (restore_cut TapeFails e (λ e. cc) numbered cut) replies
+  restore_failed other r never replies = absurd never
+
 -- ---- scrub
 
 module _ {T S K : Type 0} (t : tapes.Meaning T) (s : sources.Meaning S) (k : sinks.Meaning K) (store after : StoreView) (a b : T) (i : S)
     (x y : K) (same : after.entries ≡ store.entries) where
-  pub scrub_locked : TakesBoth k → TakesNone k → (z : K) (r : Result (Unit {0}) SinkFailed) →
+  scrub_locked : TakesBoth k → TakesNone k → (z : K) (r : Result (Unit {0}) SinkFailed) →
       tape_calls.Tells t a (λ c. c.info.protected ≡ true) → b ≡ a → z ≡ x →
       sink_calls.Writes k z y (refusal_line why.Protected) r → ItemEnds t s k store after (outside a i x) (outside b i y) line.Scrub
       (replied_so r)
@@ -270,7 +306,7 @@ module _ {T S K : Type 0} (t : tapes.Meaning T) (s : sources.Meaning S) (k : sin
       (λ c. LineDoes c store.words store.entries line.Scrub [] (record { acts = did.acts; entries = store.entries }))
       (λ c off is. inr (off, (did.acts, is.0, refl))) free did.told))
 
-  pub scrub_cut : (failing : Failing) → failing ≢ SourceFails → tape_calls.Tells t a (λ c. c.info.protected ≡ false) →
+  scrub_cut : (failing : Failing) → failing ≢ SourceFails → tape_calls.Tells t a (λ c. c.info.protected ≡ false) →
       ScrubCut t k Shallow store.words store.entries (around a x) (around b y) failing →
       ItemCut t s k store (outside a i x) (outside b i y) line.Scrub failing
   scrub_cut failing other free cut =
@@ -291,6 +327,29 @@ module _ {T S K : Type 0} (t : tapes.Meaning T) (s : sources.Meaning S) (k : sin
       by_cases c off each did (inr (again, (acts, scrubs, is))) =
           subst (λ (d : Did). Cut t s k (outside a i x) (outside b i y) d.acts failing) (sym is)
           (printed_cut t s k a b i i x y acts failing other (omega arith) (each acts scrubs))
+
+-- by the fault
+pub scrub_failed : {T S K : Type 0} (t : tapes.Meaning T) (s : sources.Meaning S) (k : sinks.Meaning K) (store after : StoreView) (a b : T)
+    (i : S) (x z y : K) → after.entries ≡ store.entries → TakesBoth k → TakesNone k → (f : StoreFault) (r : Result (Unit {0}) StoreFault) →
+    (f ≡ fault.Protected → tape_calls.Tells t a (λ c. c.info.protected ≡ true)) →
+    (f ≢ fault.Protected → tape_calls.Tells t a (λ c. c.info.protected ≡ false)) →
+    MendEnds t k Shallow store (around a x) (around b z) (Err f) → RepliesTo k z y f r →
+    ItemEnds t s k store after (outside a i x) (outside b i y) line.Scrub r
+scrub_failed t s k store after a b i x z y same both none fault.Protected r mark free (tape, sink) replies =
+    answered_so t s k store after line.Scrub refl a b i x y replies.written r replies.answered
+    (scrub_locked t s k store after a b i x y same both none z replies.written (mark refl) tape sink replies.wrote)
+scrub_failed t s k store after a b i x z y same both none fault.Sink r mark free cut replies =
+    passed t s k store after line.Scrub refl a b i x y z fault.Sink r
+    (scrub_cut t s k store after a b i x z same SinkFails (λ e. cc) (free (λ e. cc)) cut) replies
+scrub_failed t s k store after a b i x z y same both none fault.Tape r mark free cut replies =
+    passed t s k store after line.Scrub refl a b i x y z fault.Tape r
+    (scrub_cut t s k store after a b i x z same TapeFails (λ e. cc) (free (λ e. cc)) cut) replies
+scrub_failed t s k store after a b i x z y same both none other r mark free never replies = absurd never
+
+-- a fault of the tape is answered
+pub tape_replied : {K : Type 0} (k : sinks.Meaning K) (x y : K) (f : StoreFault) (r : Result (Unit {0}) StoreFault) → RepliesTo k x y f r →
+    f ≡ fault.Tape → r ≡ Err fault.Tape
+tape_replied k x y f r replies is = let answered = subst (λ (g : StoreFault). RepliesTo k x y g r) is replies in answered.1
 
 -- ---- lose
 

@@ -21,7 +21,7 @@ use Rattle.tape_script.proofs.Rests.{ended_rest, stop_rest, whole_told, left_beh
 use Rattle.tape_script.specs.Reading.{GaveEnd}
 use Rattle.volume_store.specs.Mounting.{StoreView}
 use Rattle.volume_store.proofs.Ending.{back}
-use Rattle.volume_script.specs.declared.fault.ScriptFault.{ScriptFault}
+use Rattle.command_spec.specs.declared.status.Status.{Status}
 use Rattle.volume_script.specs.Ending.{HearsEnd, RepliesEnd}
 use Rattle.volume_script.specs.Heard.{longest, HeardItem, HeardNone, HeardShort, HeardCut, Hears, InItem, NextDoes}
 use Rattle.command_laws.specs.ScriptItems.{EarlyDoes}
@@ -55,7 +55,7 @@ use Rattle.qic_base.specs.Tape as tapes
 use Rattle.qic_base.specs.TapeCalls as tape_calls
 use Rattle.command_spec.specs.declared.line.Line.TheVariants as line
 use Rattle.command_laws.proofs.TextInputs as inputs
-use Rattle.volume_script.specs.declared.fault.ScriptFault.TheVariants as fault
+use Rattle.command_spec.specs.declared.status.Status.TheVariants as status
 use Rattle.volume_script.specs.Runs as runs
 
 -- the answer by what ended the input
@@ -402,7 +402,7 @@ module _ {T S K : Type 0} {t : tapes.Meaning T} {s : sources.Meaning S} {k : sin
     Rests tape source sink = Went t s k now (outside tape source sink) []
 
     at_end : (tape : T) (source : S) (sink y : K) → Rests tape source sink → GaveEnd s now.source source →
-        (r : Result (Unit {0}) ScriptFault) → RepliesEnd k sink y r →
+        (r : Result (Unit {0}) Status) → RepliesEnd k sink y r →
         runs.ScriptEnds t s k first start (outside tape source y) r
     at_end tape source sink y went (inl end) (Ok done) wrote =
         let behind = ended_rest (s.left now.source) end.0 in
@@ -411,7 +411,7 @@ module _ {T S K : Type 0} {t : tapes.Meaning T} {s : sources.Meaning S} {k : sin
         (λ read. left_behind (s.left start.source) (s.left source) far.texts (length (far.texts ++ behind.rest))
         (Gave-end s start.source now.source source far.texts far.gave end.1)
         (ap (λ rest. length (far.texts ++ rest)) behind.has ∙ ap length (append-nil far.texts)))
-    at_end tape source sink y went (inl end) (Err fault.Sink) broke =
+    at_end tape source sink y went (inl end) (Err status.SinkFault) broke =
         let behind = ended_rest (s.left now.source) end.0 in
         unreplied_end tape source sink y behind.rest AtEnd behind.told (ended_content (s.left now.source) behind.rest behind.has) behind.has
         went (λ c. refl) (λ c acts is. sym is) [] end.1 none_into broke
@@ -425,18 +425,12 @@ module _ {T S K : Type 0} {t : tapes.Meaning T} {s : sources.Meaning S} {k : sin
         (ap (λ (n : ℕ). n + length (codes "end\n"))
         (place_is far.items far.texts behind.rest 1 0 (far.texts ++ behind.rest) AtStop read refl far.reads ∙ plain_place far.texts)
         ∙ sym (length-append far.texts (codes "end\n"))))
-    at_end tape source sink y went (inr stop) (Err fault.Sink) broke =
+    at_end tape source sink y went (inr stop) (Err status.SinkFault) broke =
         let behind = stop_rest (s.left now.source) (s.left source) stop in
         unreplied_end tape source sink y behind.rest AtStop behind.told (stop_content (s.left now.source) (s.left source) stop) behind.has
         went (λ c. refl) (λ c acts is. sym is) (codes "end\n") stop stop_into broke
-    at_end tape source sink y went (inl end) (Err (fault.Input line at)) never = absurd never
-    at_end tape source sink y went (inl end) (Err fault.TableMismatch) never = absurd never
-    at_end tape source sink y went (inl end) (Err fault.Source) never = absurd never
-    at_end tape source sink y went (inl end) (Err fault.Tape) never = absurd never
-    at_end tape source sink y went (inr stop) (Err (fault.Input line at)) never = absurd never
-    at_end tape source sink y went (inr stop) (Err fault.TableMismatch) never = absurd never
-    at_end tape source sink y went (inr stop) (Err fault.Source) never = absurd never
-    at_end tape source sink y went (inr stop) (Err fault.Tape) never = absurd never
+    at_end tape source sink y went (inl end) (Err other) never = absurd never
+    at_end tape source sink y went (inr stop) (Err other) never = absurd never
 
     -- ---- the input is at fault
 
@@ -516,11 +510,12 @@ module _ {T S K : Type 0} {t : tapes.Meaning T} {s : sources.Meaning S} {k : sin
 
     -- ---- how a line ended it
 
-    pub line_failed : (new : Outside T S K) (after : StoreView) → lines < most_items → (why : ScriptFault) →
+    pub line_failed : (new : Outside T S K) (after : StoreView) → lines < most_items → (why : Status) →
         Hears t s k store after now new (lines + 1) place (Err why) → runs.ScriptEnds t s k first start new (Err why)
-    line_failed new after below (fault.Input number at) (same, equal, inl heard) = at_none new number at same equal heard
-    line_failed new after below (fault.Input number at) (same, equal, inr heard) = at_short new number at (omega arith) same equal heard
-    line_failed new after below fault.TableMismatch heard = record {
+    line_failed new after below (status.ScriptFault number at) (same, equal, inl heard) = at_none new number at same equal heard
+    line_failed new after below (status.ScriptFault number at) (same, equal, inr heard) =
+        at_short new number at (omega arith) same equal heard
+    line_failed new after below status.TableMismatch heard = record {
       acts = far.acts ++ heard.acts;
       went = went_both t s k both start now new far.acts heard.acts far.went heard.went;
       told = Tells-map t start.tape _ (λ c. ⊥) (λ c both_told. both_told.1)
@@ -529,19 +524,20 @@ module _ {T S K : Type 0} {t : tapes.Meaning T} {s : sources.Meaning S} {k : sin
       left = left_behind (s.left start.source) (s.left new.source) (far.texts ++ heard.bytes) (length (far.texts ++ heard.bytes))
           (Gave-Gave s start.source now.source new.source far.texts heard.bytes far.gave heard.gave) refl;
     }
-    line_failed new after below fault.Source heard = cut_so both first store after start now new lines place far SourceFails few heard
-    line_failed new after below fault.Sink heard = cut_so both first store after start now new lines place far SinkFails few heard
-    line_failed new after below fault.Tape heard = cut_so both first store after start now new lines place far TapeFails few heard
+    line_failed new after below status.SourceFault heard = cut_so both first store after start now new lines place far SourceFails few heard
+    line_failed new after below status.SinkFault heard = cut_so both first store after start now new lines place far SinkFails few heard
+    line_failed new after below status.TapeFault heard = cut_so both first store after start now new lines place far TapeFails few heard
+    line_failed new after below other never = absurd never
 
     -- the input was over at a line
-    pub over : (mid : Outside T S K) (after : StoreView) (y : K) (r : Result (Unit {0}) ScriptFault) →
+    pub over : (mid : Outside T S K) (after : StoreView) (y : K) (r : Result (Unit {0}) Status) →
         Hears t s k store after now mid (lines + 1) place (Ok None) → RepliesEnd k mid.sink y r →
         runs.ScriptEnds t s k first start (outside mid.tape mid.source y) r
     over mid after y r (went, same, end) replies = at_end mid.tape mid.source mid.sink y went end r replies
 
     -- ---- the line behind the last that may be an item
 
-    pub end_over : (source : S) (y : K) (r : Result (Unit {0}) ScriptFault) → s.faults source ≡ s.faults now.source →
+    pub end_over : (source : S) (y : K) (r : Result (Unit {0}) Status) → s.faults source ≡ s.faults now.source →
         GaveEnd s now.source source → RepliesEnd k now.sink y r →
         runs.ScriptEnds t s k first start (outside now.tape source y) r
     end_over source y r later end replies =
@@ -549,10 +545,10 @@ module _ {T S K : Type 0} {t : tapes.Meaning T} {s : sources.Meaning S} {k : sin
         (record { did = Done-nothing t now.tape; wrote = record { took = none now.sink; later = omega arith }; source_later = later })
         end r replies
 
-    pub end_failed : (source : S) (why : ScriptFault) → lines ≡ most_items → s.faults now.source ≤ s.faults source →
-        (why ≢ fault.Source → s.faults source ≡ s.faults now.source) → HearsEnd s now.source source (most_items + 1) place (Err why) →
+    pub end_failed : (source : S) (why : Status) → lines ≡ most_items → s.faults now.source ≤ s.faults source →
+        (why ≢ status.SourceFault → s.faults source ≡ s.faults now.source) → HearsEnd s now.source source (most_items + 1) place (Err why) →
         runs.ScriptEnds t s k first start (outside now.tape source now.sink) (Err why)
-    end_failed source (fault.Input number at) all later stood (same, equal, on) =
+    end_failed source (status.ScriptFault number at) all later stood (same, equal, on) =
         let behind = on_rest (lines + 1) (s.left now.source) (s.left source) on.n on.gave.0
         (omega arith) on.some on.gave.1 on.gave.2 on.no_stop in
         faulty (outside now.tape source now.sink) behind.rest on.gave.0 number at [] (let e = same in omega arith) equal behind.told
@@ -567,7 +563,7 @@ module _ {T S K : Type 0} {t : tapes.Meaning T} {s : sources.Meaning S} {k : sin
         (inl (let l = on.gave.1 in let f = on.few in omega arith))
         (tells_always t now.tape (λ c. FaultDoes c store.words store.entries number behind.rest [])
         (λ c. inr ((λ within. absurd (omega arith)), refl)))
-    end_failed source fault.Source all later stood (rose, front) =
+    end_failed source status.SourceFault all later stood (rose, front) =
         let rest = any_bytes (s.left now.source) in
         let cut : Cut t s k now (outside now.tape source now.sink) [] SourceFails = record {
           front = [];
@@ -591,6 +587,4 @@ module _ {T S K : Type 0} {t : tapes.Meaning T} {s : sources.Meaning S} {k : sin
           acts = [];
           cut = cut;
         })
-    end_failed source fault.TableMismatch all later stood never = absurd never
-    end_failed source fault.Sink all later stood never = absurd never
-    end_failed source fault.Tape all later stood never = absurd never
+    end_failed source other all later stood never = absurd never

@@ -9,7 +9,7 @@ use Rattle.qic_base.specs.SourceCalls.{Gave, HasEnded}
 use Rattle.tape_script.specs.Reading.{BeginsWithNo, GaveEnd, GaveInLine}
 use Rattle.volume_store.specs.Mounting.{StoreView}
 use Rattle.volume_script.specs.Items.{ItemMismatched}
-use Rattle.volume_script.specs.declared.fault.ScriptFault.{ScriptFault}
+use Rattle.command_spec.specs.declared.status.Status.{Status}
 use Rattle.command_laws.specs.ScriptItems.{EarlyDoes}
 use Rattle.command_spec.specs.Script.{Did, EndDoes, ReachesItem}
 use Rattle.command_laws.specs.ScriptTerms.{ItemDoes}
@@ -17,7 +17,7 @@ use Rattle.qic_base.specs.Sink as sinks
 use Rattle.qic_base.specs.Source as sources
 use Rattle.qic_base.specs.Tape as tapes
 use Rattle.qic_base.specs.TapeCalls as tape_calls
-use Rattle.volume_script.specs.declared.fault.ScriptFault.TheVariants as fault
+use Rattle.command_spec.specs.declared.status.Status.TheVariants as status
 
 -- no item has more bytes: its line has a u8 of them, and it promises a u32
 abbrev pub longest : ℕ
@@ -90,13 +90,14 @@ pub record HeardCut {T S K : Type 0} (t : tapes.Meaning T) (s : sources.Meaning 
 -- What a line did that may be an item, with this number and so many bytes before it: it was carried out; the input is
 -- over; it is at fault; or a fault of the outside cut it off.
 abbrev pub Hears : {T S K : Type 0} (t : tapes.Meaning T) (s : sources.Meaning S) (k : sinks.Meaning K) (store after : StoreView)
-    (old new : Outside T S K) (number place : ℕ) → Result (Option ℕ) ScriptFault → Type 0
+    (old new : Outside T S K) (number place : ℕ) → Result (Option ℕ) Status → Type 0
 Hears t s k store after old new number place (Ok (Some n)) = HeardItem t s k store after old new n
 Hears t s k store after old new number place (Ok None) =
     Went t s k old new [] × (after ≡ store) × GaveEnd s old.source new.source
-Hears t s k store after old new number place (Err (fault.Input line at)) =
+Hears t s k store after old new number place (Err (status.ScriptFault line at)) =
     (line ≡ number) × (at ≡ place) × (HeardNone t s k old new ⊎ HeardShort t s k store old new)
-Hears t s k store after old new number place (Err fault.TableMismatch) = ItemMismatched t s k old new
-Hears t s k store after old new number place (Err fault.Source) = HeardCut t s k store old new number place SourceFails
-Hears t s k store after old new number place (Err fault.Sink) = HeardCut t s k store old new number place SinkFails
-Hears t s k store after old new number place (Err fault.Tape) = HeardCut t s k store old new number place TapeFails
+Hears t s k store after old new number place (Err status.TableMismatch) = ItemMismatched t s k old new
+Hears t s k store after old new number place (Err status.SourceFault) = HeardCut t s k store old new number place SourceFails
+Hears t s k store after old new number place (Err status.SinkFault) = HeardCut t s k store old new number place SinkFails
+Hears t s k store after old new number place (Err status.TapeFault) = HeardCut t s k store old new number place TapeFails
+Hears t s k store after old new number place (Err other) = ⊥

@@ -8,13 +8,13 @@ use Rattle.command_spec.specs.declared.line.Line.{Line}
 use Rattle.qic_base.specs.Acts.{Act, Outside, Went, Failing, Cut, TapeFails, SourceFails, SinkFails}
 use Rattle.qic_base.specs.Cartridge.{Cartridge}
 use Rattle.qic_base.specs.SourceCalls.{Gave, HasEnded}
-use Rattle.volume_script.specs.declared.fault.ItemFault.{ItemFault}
+use Rattle.segment_io.specs.declared.fault.StoreFault.{StoreFault}
 use Rattle.volume_store.specs.Mounting.{StoreView}
 use Rattle.qic_base.specs.Sink as sinks
 use Rattle.qic_base.specs.Source as sources
 use Rattle.qic_base.specs.Tape as tapes
 use Rattle.qic_base.specs.TapeCalls as tape_calls
-use Rattle.volume_script.specs.declared.fault.ItemFault.TheVariants as fault
+use Rattle.segment_io.specs.declared.fault.StoreFault.TheVariants as fault
 
 -- The line was carried out, with all the bytes that it promises; bytes they are, too, where the source tells none.
 pub record ItemDone {T S K : Type 0} (t : tapes.Meaning T) (s : sources.Meaning S) (k : sinks.Meaning K) (store after : StoreView)
@@ -28,10 +28,11 @@ pub record ItemDone {T S K : Type 0} (t : tapes.Meaning T) (s : sources.Meaning 
   pub told : tape_calls.Tells t old.tape
       (λ c. LineDoes c store.words store.entries asked bytes (record { acts = acts; entries = after.entries }))
 
--- The source ended before them.
+-- The source ended before them, behind so many.
 pub record ItemShort {T S K : Type 0} (t : tapes.Meaning T) (s : sources.Meaning S) (k : sinks.Meaning K) (store : StoreView)
-    (old new : Outside T S K) (asked : Line) : Type 0 where
+    (old new : Outside T S K) (asked : Line) (read : ℕ) : Type 0 where
   pub bytes : List ℕ
+  pub all : length bytes ≡ read
   pub short : length bytes < promised asked
   pub gave : Gave s old.source new.source bytes
   pub content : IfNone (s.left old.source) (All (λ b. b < 256) bytes)
@@ -73,10 +74,11 @@ pub record ItemMismatched {T S K : Type 0} (t : tapes.Meaning T) (s : sources.Me
 
 -- how a line ended
 abbrev pub ItemEnds : {T S K : Type 0} (t : tapes.Meaning T) (s : sources.Meaning S) (k : sinks.Meaning K) (store after : StoreView)
-    (old new : Outside T S K) → Line → Result (Unit {0}) ItemFault → Type 0
+    (old new : Outside T S K) → Line → Result (Unit {0}) StoreFault → Type 0
 ItemEnds t s k store after old new asked (Ok done) = ItemDone t s k store after old new asked
-ItemEnds t s k store after old new asked (Err fault.Short) = ItemShort t s k store old new asked
+ItemEnds t s k store after old new asked (Err (fault.Short all read)) = (all ≡ promised asked) × ItemShort t s k store old new asked read
 ItemEnds t s k store after old new asked (Err fault.TableMismatch) = ItemMismatched t s k old new
 ItemEnds t s k store after old new asked (Err fault.Source) = ItemCut t s k store old new asked SourceFails
 ItemEnds t s k store after old new asked (Err fault.Sink) = ItemCut t s k store old new asked SinkFails
 ItemEnds t s k store after old new asked (Err fault.Tape) = ItemCut t s k store old new asked TapeFails
+ItemEnds t s k store after old new asked (Err other) = ⊥

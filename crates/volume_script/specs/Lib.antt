@@ -4,4 +4,5 @@ pub mod Heard
 pub mod Items
 pub mod Limited
 pub mod Promised
+pub mod Refusing
 pub mod Runs

@@ -5,7 +5,7 @@ use Rattle.qic_base.specs.Acts.{Act, text_of, Outside, Failing, TapeFails, Sourc
 use Rattle.command_spec.specs.Input.{Item, IsItem, Ending, IsScript, Reaches}
 use Rattle.command_spec.specs.Machine.{LeftAtFault, acts_before}
 use Rattle.volume_store.specs.Mounting.{StoreView}
-use Rattle.volume_script.specs.declared.fault.ScriptFault.{ScriptFault}
+use Rattle.command_spec.specs.declared.status.Status.{Status}
 use Rattle.command_spec.specs.Script.{Did, ItemsDo, ReachesItem, ScriptDoes, acts_of, end_line}
 use Rattle.volume_script.specs.Answers.{Answer, AllDone, FaultIn, script_answer, script_status}
 use Rattle.command_spec.specs.Outcome.{CommandOutcome}
@@ -15,7 +15,7 @@ use Rattle.qic_base.specs.Sink as sinks
 use Rattle.qic_base.specs.Source as sources
 use Rattle.qic_base.specs.Tape as tapes
 use Rattle.qic_base.specs.TapeCalls as tape_calls
-use Rattle.volume_script.specs.declared.fault.ScriptFault.TheVariants as fault
+use Rattle.command_spec.specs.declared.status.Status.TheVariants as status
 
 -- what is left of the source: the bytes behind those taken; or what a fault of the input leaves
 abbrev pub Leaves : {S : Type 0} (s : sources.Meaning S) (old new : S) (taken : ℕ) → Answer → Type 0
@@ -80,10 +80,11 @@ pub record CutOff {T S K : Type 0} (t : tapes.Meaning T) (s : sources.Meaning S)
 
 -- how a run ended
 abbrev pub ScriptEnds : {T S K : Type 0} (t : tapes.Meaning T) (s : sources.Meaning S) (k : sinks.Meaning K) (store : StoreView)
-    (old new : Outside T S K) → Result (Unit {0}) ScriptFault → Type 0
+    (old new : Outside T S K) → Result (Unit {0}) Status → Type 0
 ScriptEnds t s k store old new (Ok done) = Ended t s k store old new AllDone
-ScriptEnds t s k store old new (Err (fault.Input line place)) = Ended t s k store old new (FaultIn line place)
-ScriptEnds t s k store old new (Err fault.TableMismatch) = Mismatched t s k old new
-ScriptEnds t s k store old new (Err fault.Source) = CutOff t s k store old new SourceFails
-ScriptEnds t s k store old new (Err fault.Sink) = CutOff t s k store old new SinkFails
-ScriptEnds t s k store old new (Err fault.Tape) = CutOff t s k store old new TapeFails
+ScriptEnds t s k store old new (Err (status.ScriptFault line place)) = Ended t s k store old new (FaultIn line place)
+ScriptEnds t s k store old new (Err status.TableMismatch) = Mismatched t s k old new
+ScriptEnds t s k store old new (Err status.SourceFault) = CutOff t s k store old new SourceFails
+ScriptEnds t s k store old new (Err status.SinkFault) = CutOff t s k store old new SinkFails
+ScriptEnds t s k store old new (Err status.TapeFault) = CutOff t s k store old new TapeFails
+ScriptEnds t s k store old new (Err other) = ⊥

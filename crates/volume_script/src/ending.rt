@@ -4,7 +4,7 @@ ghost use Rattle.std.specs.Prelude.{◌≡◌, ◌≢◌, ◌≤◌, Err, is_som
 ghost use Rattle.command_spec.specs.declared.line.Line.TheVariants.{End as end_line};
 ghost use Rattle.volume_script.specs.Ending.{HearsEnd, RepliesEnd};
 
-use crate::fault::ScriptFault;
+use command_spec::Status;
 use qic_base::{Sink, SinkFailed, Source, SourceFailed, write_text};
 use tape_script::{Line, LineRead, read_line};
 
@@ -20,12 +20,12 @@ pub fn end_input<S: Source>(
     buffer: &mut [u8; 128],
     line: u32,
     place: u64,
-) -> Result<(), ScriptFault>
+) -> Result<(), Status>
     ensures hears { HearsEnd S.means source.old source.new line place result }
     ensures kept { S.means.keeps source.old source.new }
     ensures tells { is_some (S.means.left source.new) ≡ is_some (S.means.left source.old) }
     ensures later { S.means.faults source.old ≤ S.means.faults source.new }
-    ensures stood { result ≢ Err ScriptFault.Source →
+    ensures stood { result ≢ Err Status.SourceFault →
         S.means.faults source.new ≡ S.means.faults source.old }
 {
     match read_line(source, buffer) {
@@ -38,19 +38,19 @@ pub fn end_input<S: Source>(
         ) => Ok(()),
         Ok(LineRead::Line { line: other, .. }) => {
             is_no_end(&other);
-            Err(ScriptFault::Input { line, place })
+            Err(Status::ScriptFault { line, place })
         }
-        Ok(LineRead::Bad { .. }) => Err(ScriptFault::Input { line, place }),
-        Err(SourceFailed) => Err(ScriptFault::Source),
+        Ok(LineRead::Bad { .. }) => Err(Status::ScriptFault { line, place }),
+        Err(SourceFailed) => Err(Status::SourceFault),
     }
 }
 
 /// Writes the last reply.
-pub fn write_end<K: Sink>(sink: &mut K) -> Result<(), ScriptFault>
+pub fn write_end<K: Sink>(sink: &mut K) -> Result<(), Status>
     ensures { RepliesEnd K.means sink.old sink.new result }
 {
     match write_text(b"end\n", sink) {
         Ok(()) => Ok(()),
-        Err(SinkFailed) => Err(ScriptFault::Sink),
+        Err(SinkFailed) => Err(Status::SinkFault),
     }
 }

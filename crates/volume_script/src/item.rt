@@ -7,7 +7,6 @@ ghost use Rattle.volume_store.specs.Mounting.{StoreFits};
 ghost use Rattle.volume_script.specs.Items.{ItemEnds};
 
 use crate::append::append;
-use crate::fault::ItemFault;
 use crate::lose::lose;
 use crate::replies::replied;
 use crate::restore::restore;
@@ -15,7 +14,7 @@ use crate::scrub::scrub;
 use drive_states::Unit;
 use qic_base::{Sink, Source, Tape};
 use tape_script::Line;
-use volume_store::{Store, write_list};
+use volume_store::{Store, StoreFault, write_list};
 
 /// Prints the volumes as they are listed now.
 fn list<T: Tape, S: Source, K: Sink>(
@@ -23,7 +22,7 @@ fn list<T: Tape, S: Source, K: Sink>(
     unit: &mut Unit<T>,
     source: &mut S,
     sink: &mut K,
-) -> Result<(), ItemFault>
+) -> Result<(), StoreFault>
     ensures ends { ItemEnds T.means S.means K.means store.old store.new
         record { tape = unit.old.tape; source = source.old; sink = sink.old }
         record { tape = unit.new.tape; source = source.new; sink = sink.new } list_line result }
@@ -41,14 +40,14 @@ pub fn carry_out<T: Tape, S: Source, K: Sink>(
     line: &Line,
     source: &mut S,
     sink: &mut K,
-) -> Result<(), ItemFault>
+) -> Result<(), StoreFault>
     requires fits { StoreFits T.means store.old unit.old }
     requires not_end { line.now ≢ end_line }
     ensures ends { ItemEnds T.means S.means K.means store.old store.new
         record { tape = unit.old.tape; source = source.old; sink = sink.old }
         record { tape = unit.new.tape; source = source.new; sink = sink.new } line.now result }
     ensures other { line.now ≢ end_line }
-    ensures fits { result ≢ Err ItemFault.Tape → StoreFits T.means store.new unit.new }
+    ensures fits { result ≢ Err StoreFault.Tape → StoreFits T.means store.new unit.new }
     ensures format { KeepsFormat store.old store.new }
     ensures kept { S.means.keeps source.old source.new }
     ensures tells { is_some (S.means.left source.new) ≡ is_some (S.means.left source.old) }

@@ -3,7 +3,6 @@
 
 mod append;
 mod ending;
-mod fault;
 mod item;
 mod limited;
 mod line;
@@ -13,5 +12,4 @@ mod restore;
 mod run;
 mod scrub;
 
-pub use fault::ScriptFault;
 pub use run::run_script;

@@ -6,12 +6,12 @@ ghost use Rattle.volume_store.specs.Appending.{KeepsFormat};
 ghost use Rattle.volume_store.specs.Mounting.{StoreFits};
 ghost use Rattle.volume_script.specs.Heard.{Hears, longest};
 
-use crate::fault::{ItemFault, ScriptFault};
 use crate::item::carry_out;
+use command_spec::Status;
 use drive_states::Unit;
 use qic_base::{Sink, Source, SourceFailed, Tape};
 use tape_script::{Line, LineRead, read_line};
-use volume_store::Store;
+use volume_store::{Store, StoreFault};
 
 /// The number of bytes that follow a line at once.
 fn promised(line: &Line) -> u32
@@ -34,14 +34,14 @@ pub fn carry_out_line<T: Tape, S: Source, K: Sink>(
     buffer: &mut [u8; 128],
     line: u32,
     place: u64,
-) -> Result<Option<u64>, ScriptFault>
+) -> Result<Option<u64>, Status>
     requires fits { StoreFits T.means store.old unit.old }
     requires within { line ≤ most_items }
     ensures hears { Hears T.means S.means K.means store.old store.new
         record { tape = unit.old.tape; source = source.old; sink = sink.old }
         record { tape = unit.new.tape; source = source.new; sink = sink.new } line place result }
     ensures few { IfOk result (λ read. IfSome read (λ n. n ≤ longest)) }
-    ensures fits { result ≢ Err ScriptFault.Tape → StoreFits T.means store.new unit.new }
+    ensures fits { result ≢ Err Status.TapeFault → StoreFits T.means store.new unit.new }
     ensures format { KeepsFormat store.old store.new }
     ensures kept { S.means.keeps source.old source.new }
     ensures tells { is_some (S.means.left source.new) ≡ is_some (S.means.left source.old) }
@@ -57,14 +57,23 @@ pub fn carry_out_line<T: Tape, S: Source, K: Sink>(
         Ok(LineRead::Line { line: asked, read }) => {
             match carry_out(store, unit, &asked, source, sink) {
                 Ok(()) => Ok(Some(u64::from(read) + u64::from(promised(&asked)))),
-                Err(ItemFault::Short) => Err(ScriptFault::Input { line, place }),
-                Err(ItemFault::TableMismatch) => Err(ScriptFault::TableMismatch),
-                Err(ItemFault::Source) => Err(ScriptFault::Source),
-                Err(ItemFault::Sink) => Err(ScriptFault::Sink),
-                Err(ItemFault::Tape) => Err(ScriptFault::Tape),
+                Err(StoreFault::Short { .. }) => Err(Status::ScriptFault { line, place }),
+                Err(StoreFault::TableMismatch) => Err(Status::TableMismatch),
+                Err(StoreFault::Source) => Err(Status::SourceFault),
+                Err(StoreFault::Sink) => Err(Status::SinkFault),
+                Err(StoreFault::Tape) => Err(Status::TapeFault),
+                Err(
+                    StoreFault::NotFormatted
+                    | StoreFault::Foreign { .. }
+                    | StoreFault::Full { .. }
+                    | StoreFault::NoVolume { .. }
+                    | StoreFault::Lost { .. }
+                    | StoreFault::Mismatch { .. }
+                    | StoreFault::Protected,
+                ) => unreachable!("a line that is refused has its reply"),
             }
         }
-        Ok(LineRead::Bad { .. }) => Err(ScriptFault::Input { line, place }),
-        Err(SourceFailed) => Err(ScriptFault::Source),
+        Ok(LineRead::Bad { .. }) => Err(Status::ScriptFault { line, place }),
+        Err(SourceFailed) => Err(Status::SourceFault),
     }
 }

@@ -5,13 +5,12 @@ ghost use Rattle.command_spec.specs.declared.line.Line.TheVariants.{Lose};
 ghost use Rattle.volume_store.specs.Mounting.{StoreFits};
 ghost use Rattle.volume_script.specs.Items.{ItemEnds};
 
-use crate::fault::ItemFault;
 use crate::replies::{replied, write_refusal};
 use command_spec::Refusal;
 use drive_states::{HandFault, Unit};
 use qic_base::{Sink, Source, Tape, write_text};
 use tape_script::place_text;
-use volume_store::Store;
+use volume_store::{Store, StoreFault};
 
 /// Makes a readable sector unreadable, until it is written again.
 pub fn lose<T: Tape, S: Source, K: Sink>(
@@ -21,13 +20,13 @@ pub fn lose<T: Tape, S: Source, K: Sink>(
     sector: u32,
     source: &mut S,
     sink: &mut K,
-) -> Result<(), ItemFault>
+) -> Result<(), StoreFault>
     requires fits { StoreFits T.means store.old unit.old }
     ensures ends { ItemEnds T.means S.means K.means store.old store.new
         record { tape = unit.old.tape; source = source.old; sink = sink.old }
         record { tape = unit.new.tape; source = source.new; sink = sink.new }
         (Lose segment sector) result }
-    ensures fits { result ≢ Err ItemFault.Tape → StoreFits T.means store.new unit.new }
+    ensures fits { result ≢ Err StoreFault.Tape → StoreFits T.means store.new unit.new }
     ensures store { store.new ≡ store.old }
     ensures source { source.new ≡ source.old }
 {
@@ -39,7 +38,7 @@ pub fn lose<T: Tape, S: Source, K: Sink>(
         Err(HandFault::BadPlace) => {
             replied(write_refusal(Refusal::Place { segment, sector }, sink))
         }
-        Err(HandFault::Tape) => Err(ItemFault::Tape),
+        Err(HandFault::Tape) => Err(StoreFault::Tape),
         Err(HandFault::NoCartridge | HandFault::NotBlank) => {
             unreachable!("the cartridge is there, and a sector is worn whatever it holds")
         }

@@ -4,12 +4,12 @@ ghost use Rattle.std.specs.Prelude.{◌≡◌};
 ghost use Rattle.qic_base.specs.SinkCalls.{Writes};
 ghost use Rattle.command_spec.specs.Script.{no_volume_line, refusal_line};
 ghost use Rattle.command_laws.specs.ScriptTerms.{restored_line};
-ghost use Rattle.volume_script.specs.Promised.{replied_so};
+ghost use Rattle.volume_script.specs.Refusing.{RepliesTo, refusal_of, replied_so};
 
-use crate::fault::ItemFault;
 use command_spec::Refusal;
 use qic_base::{Sink, SinkFailed, write_text};
 use tape_script::{TextLine, number_text, place_text};
+use volume_store::StoreFault;
 
 #[tactic(auto, unfolding(command_spec::specs::Script::no_volume_line))]
 fn no_volume_text(number: u32, count: u32) -> TextLine
@@ -64,11 +64,38 @@ pub fn write_restored<K: Sink>(number: u32, bytes: u64, sink: &mut K) -> Result<
 }
 
 /// What a reply that was written, or wasn't, makes of a line.
-pub fn replied(written: Result<(), SinkFailed>) -> Result<(), ItemFault>
+pub fn replied(written: Result<(), SinkFailed>) -> Result<(), StoreFault>
     ensures { result ≡ replied_so written }
 {
-    match written {
-        Ok(()) => Ok(()),
-        Err(SinkFailed) => Err(ItemFault::Sink),
+    Ok(written?)
+}
+
+/// What a line is refused for behind a fault; nothing behind one that ends the script.
+pub fn refusal_for(fault: StoreFault) -> Option<Refusal>
+    ensures { result ≡ refusal_of fault }
+{
+    match fault {
+        StoreFault::Protected => Some(Refusal::Protected),
+        StoreFault::Full { need, have } => Some(Refusal::Full { need, have }),
+        StoreFault::NoVolume { number, count } => Some(Refusal::NoVolume { number, count }),
+        StoreFault::Lost { segment, lost } => Some(Refusal::Lost { segment, lost }),
+        StoreFault::Mismatch { segment } => Some(Refusal::Mismatch { segment }),
+        StoreFault::NotFormatted
+        | StoreFault::Foreign { .. }
+        | StoreFault::TableMismatch
+        | StoreFault::Short { .. }
+        | StoreFault::Source
+        | StoreFault::Sink
+        | StoreFault::Tape => None,
+    }
+}
+
+/// Replies to a line that a fault refuses. One that ends the script is answered at once.
+pub fn reply_refused<K: Sink>(fault: StoreFault, sink: &mut K) -> Result<(), StoreFault>
+    ensures { RepliesTo K.means sink.old sink.new fault result }
+{
+    match refusal_for(fault) {
+        Some(refusal) => replied(write_refusal(refusal, sink)),
+        None => Err(fault),
     }
 }

@@ -7,9 +7,8 @@ ghost use Rattle.volume_store.specs.Mounting.{StoreFits};
 ghost use Rattle.volume_script.specs.Runs.{ScriptEnds};
 
 use crate::ending::{end_input, write_end};
-use crate::fault::ScriptFault;
 use crate::line::carry_out_line;
-use command_spec::MOST_LINES;
+use command_spec::{MOST_LINES, Status};
 use drive_states::Unit;
 use qic_base::{Sink, Source, Tape};
 use volume_store::Store;
@@ -23,22 +22,22 @@ pub fn run_script<T: Tape, S: Source, K: Sink>(
     unit: &mut Unit<T>,
     source: &mut S,
     sink: &mut K,
-) -> Result<(), ScriptFault>
+) -> Result<(), Status>
     requires fits { StoreFits T.means store.old unit.old }
     // The outcome of the plain machine; where a fault of the outside cut it off, the acts up to that one and no more.
     ensures ends { ScriptEnds T.means S.means K.means store.old
         record { tape = unit.old.tape; source = source.old; sink = sink.old }
         record { tape = unit.new.tape; source = source.new; sink = sink.new } result }
     // The store is that of the cartridge as it stands, but after a fault of the tape.
-    ensures fits { result ≢ Err ScriptFault.Tape → StoreFits T.means store.new unit.new }
+    ensures fits { result ≢ Err Status.TapeFault → StoreFits T.means store.new unit.new }
     ensures format { KeepsFormat store.old store.new }
 
     // Each fault of the outside has its cause.
-    ensures tape_fault { result ≡ Err ScriptFault.Tape →
+    ensures tape_fault { result ≡ Err Status.TapeFault →
         Rose (T.means.faults unit.old.tape) (T.means.faults unit.new.tape) }
-    ensures source_fault { result ≡ Err ScriptFault.Source →
+    ensures source_fault { result ≡ Err Status.SourceFault →
         Rose (S.means.faults source.old) (S.means.faults source.new) }
-    ensures sink_fault { result ≡ Err ScriptFault.Sink →
+    ensures sink_fault { result ≡ Err Status.SinkFault →
         Rose (K.means.faults sink.old) (K.means.faults sink.new) }
 
     // No count of faults falls.
@@ -53,14 +52,11 @@ pub fn run_script<T: Tape, S: Source, K: Sink>(
     let mut buffer = [0; 128];
     let mut place: u64 = 0;
     for line in 0..MOST_LINES {
-        match carry_out_line(store, unit, source, sink, &mut buffer, line + 1, place) {
-            Ok(Some(read)) => place += read,
-            Ok(None) => return write_end(sink),
-            Err(fault) => return Err(fault),
+        match carry_out_line(store, unit, source, sink, &mut buffer, line + 1, place)? {
+            Some(read) => place += read,
+            None => return write_end(sink),
         }
     }
-    match end_input(source, &mut buffer, MOST_LINES + 1, place) {
-        Ok(()) => write_end(sink),
-        Err(fault) => Err(fault),
-    }
+    end_input(source, &mut buffer, MOST_LINES + 1, place)?;
+    write_end(sink)
 }

@@ -5,9 +5,7 @@ ghost use Rattle.command_spec.specs.declared.line.Line.TheVariants.{Scrub};
 ghost use Rattle.volume_store.specs.Mounting.{KeepsStore, StoreFits};
 ghost use Rattle.volume_script.specs.Items.{ItemEnds};
 
-use crate::fault::ItemFault;
-use crate::replies::{replied, write_refusal};
-use command_spec::Refusal;
+use crate::replies::reply_refused;
 use drive_states::Unit;
 use qic_base::{Sink, Source, Tape};
 use volume_store::{Store, StoreFault};
@@ -18,30 +16,17 @@ pub fn scrub<T: Tape, S: Source, K: Sink>(
     unit: &mut Unit<T>,
     source: &mut S,
     sink: &mut K,
-) -> Result<(), ItemFault>
+) -> Result<(), StoreFault>
     requires fits { StoreFits T.means store.old unit.old }
     ensures ends { ItemEnds T.means S.means K.means store.old store.new
         record { tape = unit.old.tape; source = source.old; sink = sink.old }
         record { tape = unit.new.tape; source = source.new; sink = sink.new } Scrub result }
-    ensures fits { result ≢ Err ItemFault.Tape → StoreFits T.means store.new unit.new }
+    ensures fits { result ≢ Err StoreFault.Tape → StoreFits T.means store.new unit.new }
     ensures store { KeepsStore store.old store.new }
     ensures source { source.new ≡ source.old }
 {
     match store.scrub(unit, sink) {
         Ok(_) => Ok(()),
-        Err(StoreFault::Protected) => replied(write_refusal(Refusal::Protected, sink)),
-        Err(StoreFault::Sink) => Err(ItemFault::Sink),
-        Err(StoreFault::Tape) => Err(ItemFault::Tape),
-        Err(
-            StoreFault::NotFormatted
-            | StoreFault::Foreign { .. }
-            | StoreFault::TableMismatch
-            | StoreFault::Full { .. }
-            | StoreFault::NoVolume { .. }
-            | StoreFault::Lost { .. }
-            | StoreFault::Mismatch { .. }
-            | StoreFault::Short { .. }
-            | StoreFault::Source,
-        ) => unreachable!("a scrub counts what doesn't read, and refuses nothing else"),
+        Err(fault) => reply_refused(fault, sink),
     }
 }

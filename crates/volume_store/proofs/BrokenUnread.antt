@@ -12,8 +12,8 @@ use Rattle.cartridge_spec.specs.TableSegment.{TableIs}
 use Rattle.cartridge_spec.specs.Settling.{settling_steps}
 use Rattle.segment_io.proofs.Going.{tells_always}
 use Rattle.volume_store.specs.declared.appended.Appended.{Appended}
-use Rattle.cartridge_front.specs.declared.fault.StoreFault.{StoreFault}
-use Rattle.cartridge_front.specs.declared.fault.StoreFault.TheVariants as fault
+use Rattle.segment_io.specs.declared.fault.StoreFault.{StoreFault}
+use Rattle.segment_io.specs.declared.fault.StoreFault.TheVariants as fault
 use Rattle.cartridge_front.specs.Again.{FaultUnread, IsOfReading}
 use Rattle.volume_store.specs.Appending.{CutUnread, FaultsUnread}
 

@@ -1,6 +1,6 @@
 -- How a look at a cartridge ends, by how its reading did.
 use Rattle.std.proofs.Common.{◌≡◌, ◌≢◌, ℕ, List, [], true, Option, Some, None, IfSome, IsSomeAnd, Err}
-use Rattle.cartridge_front.specs.declared.fault.StoreFault.{StoreFault}
+use Rattle.segment_io.specs.declared.fault.StoreFault.{StoreFault}
 use Rattle.cartridge_front.specs.declared.learning.Learnt.{Learnt}
 use Rattle.cartridge_front.specs.Finding.{is_of_mounting, Leaves, NamesCause}
 use Rattle.cartridge_front.specs.Learning.{HasLearnt, MountRefuses}
@@ -15,18 +15,9 @@ use Rattle.qic_base.specs.declared.tape.TapeInfo.{TapeInfo}
 use Rattle.volume_store.proofs.Mounted.{turned}
 use Rattle.volume_store.proofs.Started.{Present, told_known_beside, told_at_start}
 use Rattle.volume_store.specs.Looking.{FindsRoom, HasVolumes, LookFails}
-use Rattle.volume_store.specs.Opening.{StartFails}
-use Rattle.volume_store.specs.declared.opening.OpenFault.{OpenFault}
 use Rattle.qic_base.specs.Tape as tapes
 use Rattle.qic_base.specs.TapeCalls as tape_calls
-use Rattle.volume_store.specs.declared.opening.OpenFault.TheVariants as open_fault
-use Rattle.cartridge_front.specs.declared.fault.StoreFault.TheVariants as fault
-
--- there was no start
-pub look_unstarted : {T : Type 0} (t : tapes.Meaning T) (a b : T) (why : OpenFault) → StartFails t a b why → LookFails t a b why
-look_unstarted t a b open_fault.NoCartridge fails = fails
-look_unstarted t a b (open_fault.Refused fault.Tape) fails = fails
-look_unstarted t a b (open_fault.Refused f) fails = absurd fails
+use Rattle.segment_io.specs.declared.fault.StoreFault.TheVariants as fault
 
 there_is : (info : TapeInfo) (P : Cartridge → Type 0) (held : Option Cartridge) → IsInfoOf (Some info) held → IfSome held P → IsSomeAnd
     held P
@@ -56,7 +47,7 @@ look_found t a b c info words sectors entries learnt bytes there did told is =
 pub look_refused : {T : Type 0} (n : ℕ) (t : tapes.Meaning T) (a b : T) (c : UnitView T) (info : TapeInfo) (f : StoreFault) → Present t a
     b info → Leaves {A = Learnt} t b c.tape [] (Err f) →
     (f ≢ fault.Tape → tape_calls.Tells t b (λ d. MountRefuses d f)) → is_of_mounting f ≡ true → NamesCause {A = Learnt} n (Err f) →
-    LookFails t a c.tape (open_fault.Refused f)
+    LookFails t a c.tape (Some f)
 look_refused n t a b c info fault.NotFormatted there does told kind cause = turned n t a b c info fault.NotFormatted there does
     (told (λ same. cc)) kind cause
 look_refused n t a b c info (fault.Foreign field value) there does told kind cause =

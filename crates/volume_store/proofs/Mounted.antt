@@ -6,18 +6,16 @@ use Rattle.qic_base.specs.Cartridge.{Cartridge}
 use Rattle.qic_base.specs.Step.{Step as TapeStep}
 use Rattle.qic_base.specs.declared.tape.TapeInfo.{TapeInfo}
 use Rattle.volume_store.proofs.Started.{Present, told_known_beside, told_at_start, told_before}
-use Rattle.volume_store.specs.Opening.{IsTurnedDown, HasOpened, OpenFails, StartFails}
-use Rattle.volume_store.specs.declared.opening.OpenFault.{OpenFault}
+use Rattle.volume_store.specs.Opening.{IsTurnedDown, HasOpened, OpenFails}
 use Rattle.cartridge_front.specs.Finding.{is_of_mounting, NamesCause}
 use Rattle.cartridge_front.specs.Learning.{MountRefuses}
 use Rattle.volume_store.specs.Mounting.{StoreView, StoreFits, IsSettling, SettlingBreaks, MountDoes, IsOpened}
-use Rattle.cartridge_front.specs.declared.fault.StoreFault.{StoreFault}
+use Rattle.segment_io.specs.declared.fault.StoreFault.{StoreFault}
 use Rattle.qic_base.specs.CartridgeTerms.{IsInfoOf}
 use Rattle.qic_base.specs.Tape as tapes
 use Rattle.qic_base.specs.TapeCalls as tape_calls
-use Rattle.volume_store.specs.declared.opening.OpenFault.TheVariants as open_fault
 use Rattle.volume_store.specs.Mounting as stores
-use Rattle.cartridge_front.specs.declared.fault.StoreFault.TheVariants as fault
+use Rattle.segment_io.specs.declared.fault.StoreFault.TheVariants as fault
 
 is_mounted : (info : TapeInfo) (store : StoreView) (steps : List TapeStep) (held : Option Cartridge) → IsInfoOf (Some info) held →
     IfSome held (λ c. stores.Settles c store.header store.words store.entries steps) → IsSomeAnd held (λ c. IsOpened c store steps)
@@ -37,12 +35,6 @@ cut_first t a b broke = record { steps = []; broke = broke; front = nothing_begi
         IfSome told (λ held. (◌≡◌ {A = List TapeStep} [] []) ⊎ IsSomeAnd held (λ c. IsSettling c []))
     nothing_begins None = tt
     nothing_begins (Some h) = inl refl
-
--- there was no start
-pub open_unstarted : {T : Type 0} (t : tapes.Meaning T) (a b : T) (why : OpenFault) → StartFails t a b why → OpenFails t a b why
-open_unstarted t a b open_fault.NoCartridge fails = fails
-open_unstarted t a b (open_fault.Refused fault.Tape) fails = cut_first t a b fails
-open_unstarted t a b (open_fault.Refused f) fails = absurd fails
 
 pub open_shown : {T : Type 0} (t : tapes.Meaning T) (a b : T) (c : UnitView T) (info : TapeInfo) (store : StoreView) → Present t a b info →
     MountDoes t b c.tape (Ok store) → StoreFits t store c →
@@ -71,7 +63,7 @@ turned n t a b c info f there did told kind cause = record {
 
 pub open_failed : {T : Type 0} (n : ℕ) (t : tapes.Meaning T) (a b : T) (c : UnitView T) (info : TapeInfo) (f : StoreFault) →
     Present t a b info → MountDoes t b c.tape (Err f) → is_of_mounting f ≡ true →
-    NamesCause {A = StoreView} n (Err f) → OpenFails t a c.tape (open_fault.Refused f)
+    NamesCause {A = StoreView} n (Err f) → OpenFails t a c.tape (Some f)
 open_failed n t a b c info fault.NotFormatted there does kind cause =
     turned n t a b c info fault.NotFormatted there does.done does.told kind cause
 open_failed n t a b c info (fault.Foreign field value) there does kind cause =

@@ -18,16 +18,16 @@ use Rattle.drive_states.specs.Unit.{UnitView}
 use Rattle.host_driver.specs.Calls.{Keeps}
 use Rattle.host_driver.specs.Fits.{segments_of}
 use Rattle.command_spec.specs.Restore.{Piece, GivingEnd, framed, pieces, pieces_of, volume_at}
-use Rattle.volume_output.specs.declared.fault.OutputFault.{OutputFault}
 use Rattle.volume_output.specs.Output.{GaveVolume, VolumeCut, OutputEnds}
 use Rattle.command_laws.specs.OutputText.{AreOf, printed}
 use Rattle.volume_store.specs.Mounting.{StoreView, StoreFits, KeepsStore}
-use Rattle.volume_store.specs.Restoring.{RestoreEnds, fault_of_output}
+use Rattle.volume_store.specs.Restoring.{RestoreEnds}
+use Rattle.segment_io.specs.declared.fault.StoreFault.{StoreFault}
 use Rattle.volume_store.proofs.Storing.{one_length, still_primary, still_referenced}
 use Rattle.command_laws.proofs.OutputActsOfPieces.{no_step}
 use Rattle.command_laws.proofs.MountedFronts.{no_first}
 use Rattle.qic_base.specs.Sink as sinks
-use Rattle.volume_output.specs.declared.fault.OutputFault.TheVariants as output
+use Rattle.segment_io.specs.declared.fault.StoreFault.TheVariants as fault
 
 -- ---- the volume
 
@@ -60,7 +60,7 @@ volume_told store number e bytes some at long =
 module _ {T K : Type 0} (t : Meaning T) (k : sinks.Meaning K) (store : StoreView) (number : ℕ) (lined : Bool)
     (old new : Outside T (Unit {0}) K) where
   -- of its pieces
-  pub of_volume : (words : List ℕ) (e : Entry) (bytes : ℕ) (answer : Result (Unit {0}) OutputFault) → words ≡ store.words →
+  pub of_volume : (words : List ℕ) (e : Entry) (bytes : ℕ) (answer : Result (Unit {0}) StoreFault) → words ≡ store.words →
       bytes ≡ volume_length store.words e →
       OutputEnds t k words (pieces_of words (carrying words e.start e.end) bytes) lined old new answer →
       OutputEnds t k store.words (pieces store.words e) lined old new answer
@@ -68,13 +68,13 @@ module _ {T K : Type 0} (t : Meaning T) (k : sinks.Meaning K) (store : StoreView
       subst (λ (n : ℕ). OutputEnds t k store.words (pieces_of store.words (carrying store.words e.start e.end) n) lined old new answer) long
       (subst (λ (ws : List ℕ). OutputEnds t k ws (pieces_of ws (carrying ws e.start e.end) bytes) lined old new answer) same ends)
 
-  pub restore_failed : (e : Entry) (why : OutputFault) → volume_at store.entries number ≡ Some e →
-      OutputEnds t k store.words (pieces store.words e) lined old new (Err why) → RestoreEnds t k store number lined old new
-      (Err (fault_of_output why))
-  restore_failed e (output.Lost segment lost) at ends = (e, at, ends)
-  restore_failed e (output.Mismatch segment) at ends = (e, at, ends)
-  restore_failed e output.Sink at ends = (e, at, ends)
-  restore_failed e output.Tape at ends = (e, at, ends)
+  pub restore_failed : (e : Entry) (why : StoreFault) → volume_at store.entries number ≡ Some e →
+      OutputEnds t k store.words (pieces store.words e) lined old new (Err why) → RestoreEnds t k store number lined old new (Err why)
+  restore_failed e (fault.Lost segment lost) at ends = (e, at, ends)
+  restore_failed e (fault.Mismatch segment) at ends = (e, at, ends)
+  restore_failed e fault.Sink at ends = (e, at, ends)
+  restore_failed e fault.Tape at ends = (e, at, ends)
+  restore_failed e f at ends = absurd ends
 
 -- ---- the tape
 
@@ -113,14 +113,15 @@ module _ {T K : Type 0} (t : Meaning T) (k : sinks.Meaning K) (words : List ℕ)
       (no_step_before (printed lined needed cut.acts) cut.cut.at (printed_in_no_step needed lined cut.acts cut.are)) cut.cut.did told
 
   -- it was only read
-  pub output_told : (answer : Result (Unit {0}) OutputFault) → OutputEnds t k words needed lined old new answer →
-      (answer ≡ Err output.Tape → ⊥) →
+  pub output_told : (answer : Result (Unit {0}) StoreFault) → OutputEnds t k words needed lined old new answer →
+      (answer ≡ Err fault.Tape → ⊥) →
       Tells t old.tape P → Tells t new.tape P
   output_told (Ok done) ends other told = given_told _ ends told
-  output_told (Err (output.Lost segment lost)) ends other told = given_told _ ends told
-  output_told (Err (output.Mismatch segment)) ends other told = given_told _ ends told
-  output_told (Err output.Sink) ends other told = cut_told ends told
-  output_told (Err output.Tape) ends other told = absurd (other refl)
+  output_told (Err (fault.Lost segment lost)) ends other told = given_told _ ends told
+  output_told (Err (fault.Mismatch segment)) ends other told = given_told _ ends told
+  output_told (Err fault.Sink) ends other told = cut_told ends told
+  output_told (Err fault.Tape) ends other told = absurd (other refl)
+  output_told (Err f) ends other told = absurd ends
 
 -- ---- the store
 

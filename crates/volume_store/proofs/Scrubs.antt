@@ -33,14 +33,16 @@ use Rattle.command_spec.specs.declared.depth.Depth.{Depth}
 use Rattle.command_laws.proofs.ScrubForms.{AsSeen, as_seen, IsLeft, stopped_left}
 use Rattle.command_laws.proofs.ScrubOneWrong.{form_always}
 use Rattle.command_laws.proofs.ScrubStanding.{written_kept, looks_in_front}
-use Rattle.segment_mending.specs.declared.fault.ScrubFault.{ScrubFault}
+use Rattle.segment_io.specs.declared.fault.StoreFault.{StoreFault}
 use Rattle.segment_mending.specs.declared.report.ScrubReport.{ScrubReport}
 use Rattle.segment_mending.specs.Mending.{HasScrubbed, ScrubCut, ScrubEnds, reported}
 use Rattle.command_laws.proofs.ScrubFormsTable.{seen_table, left_table}
 use Rattle.command_laws.specs.SilentSectors.{IsSameIn}
 use Rattle.volume_store.proofs.Fitting.{Listed}
+use Rattle.volume_store.specs.Mounting.{StoreView}
+use Rattle.volume_store.specs.Scrubbing.{MendEnds}
 use Rattle.qic_base.specs.Sink as sinks
-use Rattle.segment_mending.specs.declared.fault.ScrubFault.TheVariants as fault
+use Rattle.segment_io.specs.declared.fault.StoreFault.TheVariants as fault
 
 -- ---- a cartridge that is being mended
 
@@ -147,7 +149,7 @@ module _ {T K : Type 0} (t : Meaning T) (k : sinks.Meaning K) (depth : Depth) (w
       lists
 
   -- the list stands where it stood
-  pub scrub_lists : (answer : Result ScrubReport ScrubFault) → ScrubEnds t k depth words entries old new answer →
+  pub scrub_lists : (answer : Result ScrubReport StoreFault) → ScrubEnds t k depth words entries old new answer →
       (answer ≡ Err fault.Tape → ⊥) →
       IsToldRight (t.told old.tape) (t.size old.tape) → (t.told old.tape ≡ Some None → ⊥) →
       Tells t old.tape (Listed entries) → Tells t new.tape (Listed entries)
@@ -155,3 +157,21 @@ module _ {T K : Type 0} (t : Meaning T) (k : sinks.Meaning K) (depth : Depth) (w
   scrub_lists (Err fault.Sink) ends other right there lists = cut_held (t.told old.tape)
       (t.size old.tape) refl right ends there ends.told lists
   scrub_lists (Err fault.Tape) ends other right there lists = absurd (other refl)
+  scrub_lists (Err f) ends other right there lists = absurd ends
+
+-- the answer of the scrubbing is that of the store's call
+pub scrub_ends : {T K : Type 0} (t : Meaning T) (k : sinks.Meaning K) (depth : Depth) (store : StoreView)
+    (old new : Outside T (Unit {0}) K) (answer : Result ScrubReport StoreFault) →
+    ScrubEnds t k depth store.words store.entries old new answer → MendEnds t k depth store old new answer
+scrub_ends t k depth store old new (Ok report) ends = ends
+scrub_ends t k depth store old new (Err fault.Sink) ends = ends
+scrub_ends t k depth store old new (Err fault.Tape) ends = ends
+scrub_ends t k depth store old new (Err f) ends = absurd ends
+
+-- .. and it is not Protected
+pub unprotected : {T K : Type 0} (t : Meaning T) (k : sinks.Meaning K) (depth : Depth) (words : List ℕ) (entries : List Entry)
+    (old new : Outside T (Unit {0}) K) (answer : Result ScrubReport StoreFault) → ScrubEnds t k depth words entries old new answer →
+    answer ≡ Err fault.Protected → ⊥
+unprotected t k depth words entries old new (Ok report) ends is = cc
+unprotected t k depth words entries old new (Err fault.Protected) ends is = ends
+unprotected t k depth words entries old new (Err f) ends is = cc

@@ -1,11 +1,15 @@
 -- What is told of a cartridge that was put in.
-use Rattle.std.proofs.Common.{◌≡◌, [], Option, Some, None, IfSome, IsSomeAnd, refl, subst}
+use Rattle.std.proofs.Common.{◌≡◌, [], Option, Some, None, IfSome, IsSomeAnd, Result, Ok, Err, IfOk, OnOk, refl, subst}
 use Rattle.drive_states.specs.Unit.{UnitView}
+use Rattle.host_driver.specs.Calls.{IsReady}
+use Rattle.host_driver.specs.Fits.{AgreesWithTape}
+use Rattle.host_driver.specs.Starts.{KnowsTold, Starts}
 use Rattle.host_driver.specs.declared.host.Host.{Host}
 use Rattle.qic_base.proofs.Steps.{Done-told}
 use Rattle.qic_base.specs.Cartridge.{Cartridge}
+use Rattle.qic_base.specs.declared.tape.TapeFailed.{TapeFailed}
 use Rattle.qic_base.specs.declared.tape.TapeInfo.{TapeInfo}
-use Rattle.volume_store.specs.Opening.{HasStarted}
+use Rattle.volume_store.specs.Opening.{HasStarted, StartEnds}
 use Rattle.qic_base.specs.CartridgeTerms.{IsInfoOf}
 use Rattle.qic_base.specs.Tape as tapes
 use Rattle.qic_base.specs.TapeCalls as tape_calls
@@ -24,6 +28,30 @@ known_before t a b cartridge inserted known = told_before t a b inserted (IsInfo
 pub told_at_start : {T : Type 0} (t : tapes.Meaning T) (a b : T) → tapes.Done t a b [] → (P : Cartridge → Type 0) → tape_calls.Tells t b P →
     tape_calls.Tells t a P
 told_at_start t a b inserted P told = told_before t a b inserted (λ h. IfSome h P) told
+
+none_held : (held : Option (Option Cartridge)) → IfSome held (IsInfoOf None) → IfSome held (λ h. h ≡ None)
+none_held None known = tt
+none_held (Some None) known = refl
+none_held (Some (Some c)) known = absurd (cc)
+
+-- how the start ended, by the answer of the host
+pub start_ends : {T : Type 0} (m : tapes.Meaning T) (old new : UnitView T) (answer : Result (Option Host) TapeFailed) →
+    Starts m old new answer →
+    IfOk answer (λ found. IfSome found (λ host. IsReady m host new)) → (answer ≡ Ok None → new.drive.deck.cartridge ≡ None) →
+    OnOk answer (KnowsTold m new) → IfOk answer (λ found. IfSome found (λ host. AgreesWithTape m new)) → StartEnds m old new answer
+start_ends m old new (Ok (Some host)) starts ready absent told agrees = record {
+  did = starts.1;
+  ready = ready;
+  known = told;
+  agrees = agrees;
+}
+start_ends m old new (Ok None) starts ready absent told agrees = (
+  starts.1,
+  none_held (m.told old.tape)
+      (subst (λ (i : Option TapeInfo). IfSome (m.told old.tape) (IsInfoOf i)) (absent refl)
+      (known_before m old.tape new.tape new.drive.deck.cartridge starts.1 told)),
+)
+start_ends m old new (Err failed) starts ready absent told agrees = starts.1
 
 -- a fact of what is told follows from what the drive knows
 pub told_known : (held : Option (Option Cartridge)) (cartridge : Option TapeInfo) (R : Option Cartridge → Type 0) →

@@ -1,7 +1,7 @@
 -- An input that was taken: what became of it, and the acts that it asked for.
 use Rattle.std.proofs.Common.{◌≡◌, Bool, true, false, cond, refl, ◌&&◌, ℕ, ◌+◌, ◌-◌, ◌≤◌, min, List, length, None, nat_le, ◌<◌, ap, ◌∙◌}
 use Rattle.std.proofs.Common.{arith, sym, Some, ◌⊎◌, inl, inr, take, nat_lt, ◌++◌, All, Option, IfNone, subst, append-nil, drop, zero, suc}
-use Rattle.std.proofs.Common.{[], ◌∷◌, slice_get, Ok, Err, append_assoc}
+use Rattle.std.proofs.Common.{[], ◌∷◌, slice_get, Result, Ok, Err, append_assoc}
 use Rattle.std.proofs.lemmas.Bool.{le-leb, lt-leb, le-ltb, lt-ltb, cases_lt}
 use Rattle.std.specs.Option.{option_map}
 use Rattle.std.proofs.Math.Seq.{take-append-add}
@@ -18,20 +18,20 @@ use Rattle.command_spec.specs.Append.{input_writes}
 use Rattle.command_laws.specs.AppendTerms.{bytes_taken}
 use Rattle.qic_base.proofs.Giving.{Gave-nothing, Gave-Gave, Gave-end}
 use Rattle.qic_base.proofs.Steps.{Done-nothing, Rose-after}
-use Rattle.qic_base.specs.Acts.{Act, Outside, Failing, Went, Cut, SourceFails}
+use Rattle.qic_base.specs.Acts.{Act, Outside, Failing, Went, Cut, SourceFails, TapeFails}
 use Rattle.qic_base.specs.Alone.{no_sink, reading}
 use Rattle.qic_base.specs.Tape.{Rose}
 use Rattle.qic_base.specs.SourceCalls.{Gave, HasEnded, input_of}
 use Rattle.tape_script.specs.Reading.{Skips}
 use Rattle.volume_input.proofs.Inputs.{dropped, none_left, untold_content, whole_told}
-use Rattle.volume_input.specs.Input.{HasWritten, EndedShort}
+use Rattle.volume_input.specs.Input.{HasWritten, EndedShort, InputCut, InputEnds}
 use Rattle.volume_input.specs.declared.written.Written.{Written}
-use Rattle.volume_store.specs.Appending.{InputWent, InputWritten, InputBroke, InputIs, TakesNone, most_asked}
-use Rattle.cartridge_front.specs.declared.fault.StoreFault.{StoreFault}
+use Rattle.volume_store.specs.Appending.{AskedFor, InputWent, InputWritten, InputBroke, InputIs, TakesNone, most_asked}
+use Rattle.segment_io.specs.declared.fault.StoreFault.{StoreFault}
 use Rattle.volume_input.proofs.Filled.{chosen, refused}
 use Rattle.qic_base.specs.Source as sources
 use Rattle.qic_base.specs.Tape as tapes
-use Rattle.cartridge_front.specs.declared.fault.StoreFault.TheVariants as fault
+use Rattle.segment_io.specs.declared.fault.StoreFault.TheVariants as fault
 
 -- ---- choices
 
@@ -187,7 +187,7 @@ module _ {T S : Type 0} (t : tapes.Meaning T) (s : sources.Meaning S) (words : L
 
   -- ---- with a promise
   module _ (n : ℕ) (some : 1 ≤ have) (within : n ≤ have) where
-    pub promised_written : (written : Written) → HasWritten t s words segments n true old new written →
+    promised_written : (written : Written) → HasWritten t s words segments n true old new written →
         InputWritten t s words entries (Some n) old new written
     promised_written written has =
         let all : length has.bytes ≡ n = has.whole refl in
@@ -210,7 +210,7 @@ module _ {T S : Type 0} (t : tapes.Meaning T) (s : sources.Meaning S) (words : L
           end = has.end;
         }
 
-    pub promised_ends_short : (read : ℕ) → EndedShort t s words segments n true old new read → InputWent t s words entries (Some n) old new
+    promised_ends_short : (read : ℕ) → EndedShort t s words segments n true old new read → InputWent t s words entries (Some n) old new
         (TooShort n read)
     promised_ends_short read has =
         let input : List ℕ = has.bytes ++ input_of (s.left new.source) in
@@ -226,6 +226,35 @@ module _ {T S : Type 0} (t : tapes.Meaning T) (s : sources.Meaning S) (words : L
         (both_true true (nat_lt (length input) n) refl (lt-ltb (length input) n less)))
         ∙ sym (writes_some n input some within))
         has.went)
+
+    promised_broke : (failing : Failing) → InputCut t s words segments n true old new failing →
+        InputBroke t s words entries (Some n) old new failing
+    promised_broke failing cut = record {
+      input = cut.input;
+      is_told = cut.is_told;
+      content = cut.content;
+      cut = subst (λ (acts : List Act). Cut t s no_sink old new acts failing) (sym (writes_some n cut.input some within)) cut.cut;
+      taken = cut.taken;
+      left = cut.left;
+      there = cut.there;
+      few = cut.few;
+    }
+
+    -- by the answer
+    pub promised_ends : (answer : Result Written StoreFault) → InputEnds t s words segments n true old new answer →
+        InputIs t s words entries (Some n) old new answer
+    promised_ends (Ok written) ends = promised_written written ends
+    promised_ends (Err (fault.Short promised read)) ends =
+        subst (λ (k : ℕ). InputWent t s words entries (Some n) old new (TooShort k read)) (sym ends.0) (promised_ends_short read ends.1)
+    promised_ends (Err fault.Source) ends = promised_broke SourceFails ends
+    promised_ends (Err fault.Tape) ends = promised_broke TapeFails ends
+    promised_ends (Err f) ends = absurd ends
+
+    pub promised_asked : (answer : Result Written StoreFault) → InputEnds t s words segments n true old new answer →
+        AskedFor words entries n old.source new.source answer
+    promised_asked (Ok written) ends = has_room have n some within
+    promised_asked (Err (fault.Full need left)) ends = absurd ends
+    promised_asked (Err f) ends = has_room have n some within
 
   -- ---- with none
   module _ (some : 1 ≤ have) where
@@ -253,15 +282,42 @@ module _ {T S : Type 0} (t : tapes.Meaning T) (s : sources.Meaning S) (words : L
           end = has.end;
         }
 
+    all_broke : (failing : Failing) → InputCut t s words segments have false old new failing →
+        InputBroke t s words entries None old new failing
+    all_broke failing cut = record {
+      input = cut.input;
+      is_told = cut.is_told;
+      content = cut.content;
+      cut = subst (λ (acts : List Act). Cut t s no_sink old new acts failing) (sym (writes_none cut.input some)) cut.cut;
+      taken = cut.taken;
+      left = cut.left;
+      there = cut.there;
+      few = (let few = cut.few in omega arith);
+    }
+
+    -- by the fault
+    pub all_fails : (why : StoreFault) → InputEnds t s words segments have false old new (Err why) →
+        InputIs t s words entries None old new (Err why)
+    all_fails (fault.Short promised read) ends = absurd (let exact = ends.1.is_exact in cc)
+    all_fails fault.Source ends = all_broke SourceFails ends
+    all_fails fault.Tape ends = all_broke TapeFails ends
+    all_fails f ends = absurd ends
+
 module _ {T S : Type 0} (t : tapes.Meaning T) (s : sources.Meaning S) (words : List ℕ) (entries : List Entry)
     (old new : Outside T S (Unit {0})) where
   -- the segments and the room by the numbers that a call was handed
-  pub moved : (first most : ℕ) (written : Written) → first ≡ last_end entries + 1 → most ≡ room words entries →
-      HasWritten t s words (carrying words first (length words - 1)) most false old new written →
-      HasWritten t s words (free_segments words entries) (room words entries) false old new written
-  moved first most written at is has =
-      subst (λ (n : ℕ). HasWritten t s words (free_segments words entries) n false old new written) is
-      (subst (λ (n : ℕ). HasWritten t s words (carrying words n (length words - 1)) most false old new written) at has)
+  pub moved : (first most : ℕ) (exact : Bool) (answer : Result Written StoreFault) → first ≡ last_end entries + 1 →
+      InputEnds t s words (carrying words first (length words - 1)) most exact old new answer →
+      InputEnds t s words (free_segments words entries) most exact old new answer
+  moved first most exact answer at ends =
+      subst (λ (n : ℕ). InputEnds t s words (carrying words n (length words - 1)) most exact old new answer) at ends
+
+  pub moved_all : (first most : ℕ) (answer : Result Written StoreFault) → first ≡ last_end entries + 1 → most ≡ room words entries →
+      InputEnds t s words (carrying words first (length words - 1)) most false old new answer →
+      InputEnds t s words (free_segments words entries) (room words entries) false old new answer
+  moved_all first most answer at is ends =
+      subst (λ (n : ℕ). InputEnds t s words (free_segments words entries) n false old new answer) is
+      (moved first most false answer at ends)
 
   -- what was written is no more than there is room for
   pub all_full : (written : Written) → HasWritten t s words (free_segments words entries) (room words entries) false old new written →

@@ -1,5 +1,5 @@
 -- How a look at what a drive holds ends: nothing is written, and nothing settled (this project's own).
-use Rattle.std.specs.Prelude.{◌≡◌, ℕ, List, [], IfSome, IsSomeAnd, Result, Ok, Err}
+use Rattle.std.specs.Prelude.{◌≡◌, ℕ, List, [], Option, Some, None, IfSome, IsSomeAnd, Result, Ok, Err}
 use Rattle.cartridge_spec.specs.Appending.{room}
 use Rattle.cartridge_spec.specs.Header.{Header}
 use Rattle.cartridge_spec.specs.Mounting.{Lists}
@@ -7,9 +7,8 @@ use Rattle.cartridge_spec.specs.Table.{Entry}
 use Rattle.qic_base.specs.Cartridge.{Cartridge}
 use Rattle.qic_base.specs.Tape.{Meaning, Done, Broke}
 use Rattle.volume_store.specs.Opening.{IsAbsent, IsTurnedDown}
-use Rattle.volume_store.specs.declared.opening.OpenFault.{OpenFault}
-use Rattle.volume_store.specs.declared.opening.OpenFault.TheVariants.{NoCartridge, Refused}
-use Rattle.cartridge_front.specs.declared.fault.StoreFault.TheVariants.{Tape}
+use Rattle.segment_io.specs.declared.fault.StoreFault.{StoreFault}
+use Rattle.segment_io.specs.declared.fault.StoreFault.TheVariants.{Tape}
 
 -- the cartridge is mounted with these words and these entries
 abbrev pub HasVolumes : Cartridge → (words : List ℕ) → List Entry → Type 0
@@ -23,13 +22,15 @@ pub record FindsRoom {T : Type 0} (m : Meaning T) (old new : T) (bytes : ℕ) : 
   pub is : bytes ≡ room words entries
   pub told : IfSome (m.told old) (λ held. IsSomeAnd held (λ c. HasVolumes c words entries))
 
--- why there is no room that can be told; a fault of the tape came before any step, since there is none
-abbrev pub LookFails : {T : Type 0} (m : Meaning T) (old new : T) → OpenFault → Type 0
-LookFails m old new NoCartridge = IsAbsent m old new
-LookFails m old new (Refused Tape) = Broke m old new []
-LookFails m old new (Refused fault) = IsTurnedDown m old new fault
+-- why there is no room that can be told: the drive holds nothing, or it was refused so; a fault of the tape came before
+-- any step, since there is none
+abbrev pub LookFails : {T : Type 0} (m : Meaning T) (old new : T) → Option StoreFault → Type 0
+LookFails m old new None = IsAbsent m old new
+LookFails m old new (Some Tape) = Broke m old new []
+LookFails m old new (Some fault) = IsTurnedDown m old new fault
 
 -- how the look for the room ended
-abbrev pub RoomEnds : {T : Type 0} (m : Meaning T) (old new : T) → Result ℕ OpenFault → Type 0
-RoomEnds m old new (Ok bytes) = FindsRoom m old new bytes
-RoomEnds m old new (Err fault) = LookFails m old new fault
+abbrev pub RoomEnds : {T : Type 0} (m : Meaning T) (old new : T) → Result (Option ℕ) StoreFault → Type 0
+RoomEnds m old new (Ok (Some bytes)) = FindsRoom m old new bytes
+RoomEnds m old new (Ok None) = LookFails m old new None
+RoomEnds m old new (Err fault) = LookFails m old new (Some fault)

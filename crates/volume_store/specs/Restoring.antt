@@ -7,13 +7,11 @@ use Rattle.qic_base.specs.Acts.{Outside, TapeFails, SinkFails}
 use Rattle.qic_base.specs.Alone.{around}
 use Rattle.volume_output.specs.Output.{GaveVolume, VolumeCut}
 use Rattle.volume_output.specs.Part.{OfPiece, ReadsPiece, LosesPiece, MismatchesPiece}
-use Rattle.volume_output.specs.declared.fault.OutputFault.{OutputFault}
 use Rattle.volume_store.specs.Mounting.{StoreView}
-use Rattle.cartridge_front.specs.declared.fault.StoreFault.{StoreFault}
+use Rattle.segment_io.specs.declared.fault.StoreFault.{StoreFault}
 use Rattle.qic_base.specs.Sink as sinks
 use Rattle.qic_base.specs.Tape as tapes
-use Rattle.cartridge_front.specs.declared.fault.StoreFault.TheVariants as fault
-use Rattle.volume_output.specs.declared.fault.OutputFault.TheVariants as output
+use Rattle.segment_io.specs.declared.fault.StoreFault.TheVariants as fault
 
 -- there is a volume of this number, and this is so of it
 abbrev pub OfVolume : StoreView → (number : ℕ) → (Entry → Type 0) → Type 0
@@ -60,10 +58,3 @@ ReadsPart t store after number part old new (Err (fault.Mismatch segment)) =
 ReadsPart t store after number part old new (Err fault.Tape) =
     OfVolume store number (λ e. OfPiece (pieces store.words e) part (λ piece. tapes.Broke t old new []))
 ReadsPart t store after number part old new (Err fault) = ⊥
-
--- the fault of the call that a fault of the output is
-abbrev pub fault_of_output : OutputFault → StoreFault
-fault_of_output (output.Lost segment lost) = fault.Lost segment lost
-fault_of_output (output.Mismatch segment) = fault.Mismatch segment
-fault_of_output output.Sink = fault.Sink
-fault_of_output output.Tape = fault.Tape

@@ -13,13 +13,12 @@ ghost use Rattle.volume_store.specs.Appending.{InputIs, TakesNone, AskedFor};
 
 use crate::store::capacity_between;
 use bad_sector_map::BadMap;
-use cartridge_front::StoreFault;
 use drive_states::Unit;
 use host_driver::Host;
 use qic_base::{Name, Source, SourceFailed, Tape};
-use segment_io::Workspace;
+use segment_io::{StoreFault, Workspace};
 use tape_script::skip;
-use volume_input::{InputFault, Length, Wanted, Written, take_volume};
+use volume_input::{Length, Wanted, Written, take_volume};
 use volume_table::{SLOTS, TABLE_SEGMENT, Table};
 
 /// The last segment that is taken: that of the volume table, where there is no volume.
@@ -81,7 +80,7 @@ fn take_promised<T: Tape, S: Source>(
             have: u64::from(have),
         });
     }
-    match take_volume(
+    take_volume(
         host,
         unit,
         map,
@@ -92,15 +91,7 @@ fn take_promised<T: Tape, S: Source>(
         },
         work,
         source,
-    ) {
-        Ok(written) => Ok(written),
-        Err(InputFault::Short { read }) => Err(StoreFault::Short {
-            promised: count,
-            read,
-        }),
-        Err(InputFault::Source) => Err(StoreFault::Source),
-        Err(InputFault::Tape) => Err(StoreFault::Tape),
-    }
+    )
 }
 
 /// Takes all bytes, where there is room for any, and one more than there is room for where the source has it.
@@ -124,7 +115,7 @@ fn take_all<T: Tape, S: Source>(
     ensures kept { S.means.keeps source.old source.new }
     ensures keeps { Keeps T.means host.new unit.old unit.new }
 {
-    let written = match take_volume(
+    let written = take_volume(
         host,
         unit,
         map,
@@ -135,23 +126,17 @@ fn take_all<T: Tape, S: Source>(
         },
         work,
         source,
-    ) {
-        Ok(written) => written,
-        Err(InputFault::Source) => return Err(StoreFault::Source),
-        Err(InputFault::Tape) => return Err(StoreFault::Tape),
-        Err(InputFault::Short { .. }) => unreachable!("no number of bytes is promised"),
-    };
+    )?;
     if written.bytes < have {
         return Ok(written);
     }
-    match skip(source, 1) {
-        Ok(0) => Ok(written),
-        Ok(_) => Err(StoreFault::Full {
+    if skip(source, 1)? > 0 {
+        return Err(StoreFault::Full {
             need: u64::from(have) + 1,
             have: u64::from(have),
-        }),
-        Err(SourceFailed) => Err(StoreFault::Source),
+        });
     }
+    Ok(written)
 }
 
 /// Takes one byte at most, where there is no room for any.

@@ -13,11 +13,11 @@ mod store;
 mod volume_text;
 
 pub use appended::Appended;
-pub use cartridge_front::StoreFault;
 pub use listing::write_list;
 pub use looking::find_room;
-pub use opening::{OpenFault, open, start};
+pub use opening::{open, start};
 pub use room::Room;
+pub use segment_io::StoreFault;
 pub use segment_mending::ScrubReport;
 pub use store::Store;
 pub use volume_output::Form;

@@ -14,7 +14,7 @@ ghost use Rattle.header_segments.specs.Header.{header_of};
 ghost use Rattle.volume_output.specs.Form.{is_lined};
 ghost use Rattle.volume_store.specs.Appending.{AppendEnds, FaultsUnread, KeepsFormat, KeepsList, InOrder};
 ghost use Rattle.volume_store.specs.Mounting.{MountDoes, StoreFits, KeepsStore};
-ghost use Rattle.volume_store.specs.Restoring.{RestoreEnds, ReadsPart, fault_of_output};
+ghost use Rattle.volume_store.specs.Restoring.{RestoreEnds, ReadsPart};
 ghost use Rattle.volume_store.specs.Scrubbing.{MendEnds};
 ghost use Rattle.volume_table.specs.Entry.{entry_of};
 ghost use Rattle.cartridge_front.specs.Finding.{NamesCause, RefusesMounting};
@@ -22,16 +22,16 @@ ghost use Rattle.cartridge_front.specs.Finding.{NamesCause, RefusesMounting};
 use crate::appended::Appended;
 use crate::appending::{is_label, take_input};
 use bad_sector_map::BadMap;
-use cartridge_front::{StoreFault, add_entry, learn, settle, settle_again};
+use cartridge_front::{add_entry, learn, settle, settle_again};
 use command_spec::Depth;
 use drive_states::{HandFault, Unit};
 use header_segments::Header;
 use host_driver::Host;
 use qic_base::{Name, Sector, Sink, Source, Tape};
-use segment_io::Workspace;
-use segment_mending::{ScrubFault, ScrubReport, scrub_segments};
+use segment_io::{StoreFault, Workspace};
+use segment_mending::{ScrubReport, scrub_segments};
 use std::marker::Model;
-use volume_output::{Extent, Form, OutputFault, give_volume, read_part};
+use volume_output::{Extent, Form, give_volume, read_part};
 use volume_table::{Entry, Table};
 
 /// A mounted cartridge's volumes: its header in force, its map of bad sectors and the list of its volumes. It doesn't
@@ -77,17 +77,6 @@ pub(crate) fn capacity_between(map: &BadMap, start: u16, end: u16) -> u64
         bytes += u64::from(map.capacity(segment));
     }
     bytes
-}
-
-fn output_fault(fault: OutputFault) -> StoreFault
-    ensures { result ≡ fault_of_output fault }
-{
-    match fault {
-        OutputFault::Lost { segment, lost } => StoreFault::Lost { segment, lost },
-        OutputFault::Mismatch { segment } => StoreFault::Mismatch { segment },
-        OutputFault::Sink => StoreFault::Sink,
-        OutputFault::Tape => StoreFault::Tape,
-    }
 }
 
 impl Store {
@@ -219,7 +208,7 @@ impl Store {
             end: entry.end,
             bytes: length,
         };
-        match give_volume(
+        give_volume(
             &mut self.host,
             unit,
             &self.map,
@@ -227,10 +216,8 @@ impl Store {
             form,
             &mut self.work,
             sink,
-        ) {
-            Ok(()) => Ok(length),
-            Err(fault) => Err(output_fault(fault)),
-        }
+        )?;
+        Ok(length)
     }
 
     /// Reads one piece of a volume, which is counted from 1: the part with this number, from 0, of its segments that hold
@@ -262,21 +249,19 @@ impl Store {
             end: entry.end,
             bytes: length,
         };
-        match read_part(
+        let found = read_part(
             &mut self.host,
             unit,
             &self.map,
             volume,
             part,
             &mut self.work,
-        ) {
-            Ok(None) => Ok(None),
-            Ok(Some(read)) => {
-                self.shown = read.sectors;
-                Ok(Some(read.bytes))
-            }
-            Err(fault) => Err(output_fault(fault)),
-        }
+        )?;
+        let Some(read) = found else {
+            return Ok(None);
+        };
+        self.shown = read.sectors;
+        Ok(Some(read.bytes))
     }
 
     /// The data sectors of the segment that `part` read, where that was the last call and found one.
@@ -306,7 +291,7 @@ impl Store {
         if self.host.protected() {
             return Err(StoreFault::Protected);
         }
-        match scrub_segments(
+        scrub_segments(
             &mut self.host,
             unit,
             depth,
@@ -314,11 +299,7 @@ impl Store {
             &self.table,
             &mut self.work,
             sink,
-        ) {
-            Ok(report) => Ok(report),
-            Err(ScrubFault::Sink) => Err(StoreFault::Sink),
-            Err(ScrubFault::Tape) => Err(StoreFault::Tape),
-        }
+        )
     }
 
     /// Looks at both header copies, the volume table and the segments of all volumes, and writes the sectors again that

@@ -14,7 +14,7 @@ use tape_cmd::Status;
 pub const SCRIPT: &[u8] = b"append a 3\nabclist\nrestore 1\nend\n";
 
 /// What the script prints.
-const PRINTED: &[u8] = b"appended 1 3 3 3
+pub const PRINTED: &[u8] = b"appended 1 3 3 3
 1 3 3 3 1970-01-01T00:00:00 a
 volumes 1
 part 3

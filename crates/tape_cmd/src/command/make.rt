@@ -1,14 +1,13 @@
 //! Generated volumes appended, worn, scrubbed and summed.
 
-ghost use Rattle.std.specs.Prelude.{◌≡◌, ◌≤◌};
+ghost use Rattle.std.specs.Prelude.{◌≤◌};
 ghost use Rattle.command_spec.specs.declared.words.Words.TheVariants.{Make};
-ghost use Rattle.tape_cmd.specs.Make.{status_of_making};
 ghost use Rattle.command_laws.specs.RunTerms.{EndsBlind};
 
 use crate::Status;
 use drive_states::Unit;
-use host_commands::open_writable;
-use made_volumes::{MakeFault, make_volumes};
+use host_commands::{open_writable, store_status};
+use made_volumes::make_volumes;
 use qic_base::{Sink, Tape};
 use volume_store::Room;
 
@@ -29,21 +28,8 @@ pub fn make<T: Tape, K: Sink>(
         Ok(store) => store,
         Err(status) => return status,
     };
-    answered(make_volumes(&mut store, unit, seed, count, sink))
-}
-
-/// The answer that the end of a run makes.
-fn answered(ended: Result<(), MakeFault>) -> Status
-    ensures { result ≡ status_of_making ended }
-{
-    match ended {
+    match make_volumes(&mut store, unit, seed, count, sink) {
         Ok(()) => Status::Done,
-        Err(MakeFault::Protected) => Status::Protected,
-        Err(MakeFault::TableMismatch) => Status::TableMismatch,
-        Err(MakeFault::Full { need, have }) => Status::Full { need, have },
-        Err(MakeFault::Lost { segment, lost }) => Status::Lost { segment, lost },
-        Err(MakeFault::Mismatch { segment }) => Status::Mismatch { segment },
-        Err(MakeFault::Sink) => Status::SinkFault,
-        Err(MakeFault::Tape) => Status::TapeFault,
+        Err(fault) => store_status(fault),
     }
 }

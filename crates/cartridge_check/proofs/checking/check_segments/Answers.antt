@@ -13,6 +13,7 @@ use Rattle.qic_base.specs.SinkCalls as sink_calls
 use Rattle.command_laws.proofs.Passing.{passed}
 use Rattle.cartridge_check.specs.Telling.{HasTold}
 use Rattle.cartridge_check.specs.declared.fault.CheckFault.{CheckFault}
+use Rattle.cartridge_check.specs.declared.fault.CheckFault.TheVariants.{Sink}
 use Rattle.cartridge_check.proofs.Ending.{Begun, InFront, all_told, begun, counts_cut, counts_written, front_done, front_failed}
 use Rattle.cartridge_check.proofs.Ending.{volumes_failed}
 use Rattle.cartridge_check.proofs.Looked.{looked_few}
@@ -89,8 +90,8 @@ returns-in_err-tell_volumes g c =
     rw is (volumes_failed m k words (take 29 sectors) entries a d e _ _ front c.tell_volumes.new.tally fault g.met.K.Sink.took_both
     c.in_err-tell_volumes.ensures.tells)
 
-pub returns-in-Ok : goal.returns-in-Ok
-returns-in-Ok g c =
+pub returns : goal.returns
+returns g c =
     let m = g.T.Tape.means in
     let k = g.K.Sink.means in
     let a = around c.args.unit.now.tape c.args.sink.now in
@@ -120,10 +121,11 @@ returns-in-Ok g c =
     (record { segments = omega arith; mendable = omega arith; bad = omega arith }) all
     (looked_few m c.args.host.now c.args.unit.now words entries c.requires.ready.fits c.in_ok-check_header.ensures.map order)
     g.met.K.Sink.took_both c.write_text.new.sink
-    (subst (sinks.Wrote k c.tell_volumes.new.sink c.write_text.new.sink) (c.bytes.ensures ∙ c.counts_text.ensures) c.in-Ok.ensures)
+    (subst (sinks.Wrote k c.tell_volumes.new.sink c.write_text.new.sink) (c.bytes.ensures ∙ c.counts_text.ensures)
+    c.in_ok-write_text.ensures)
 
-pub returns-in-Err : goal.returns-in-Err
-returns-in-Err g c =
+pub returns-in_err-write_text : goal.returns-in_err-write_text
+returns-in_err-write_text g c =
     let m = g.T.Tape.means in
     let k = g.K.Sink.means in
     let a = around c.args.unit.now.tape c.args.sink.now in
@@ -143,6 +145,9 @@ returns-in-Err g c =
     let all : HasTold m k (looked_at words entries) a e _ c.tell_volumes.new.tally =
     all_told m k words (take 29 sectors) entries a d e _ _ front c.tell_volumes.new.tally g.met.K.Sink.took_both
     c.in_ok-tell_volumes.ensures.tells in
-    counts_cut m k words (take 29 sectors) entries a d e _ _ front c.tell_volumes.new.tally
+    let is : c.from_residual-in_err-write_text.result ≡ Err Sink =
+    passed c.from_residual-in_err-write_text.result Sink c.from_residual-in_err-write_text.ensures.1 in
+    rw is (counts_cut m k words (take 29 sectors) entries a d e _ _ front c.tell_volumes.new.tally
     (record { segments = omega arith; mendable = omega arith; bad = omega arith }) all g.met.K.Sink.took_both c.write_text.new.sink
-    (subst (sink_calls.BrokeOff k c.tell_volumes.new.sink c.write_text.new.sink) (c.bytes.ensures ∙ c.counts_text.ensures) c.in-Err.ensures)
+    (subst (sink_calls.BrokeOff k c.tell_volumes.new.sink c.write_text.new.sink) (c.bytes.ensures ∙ c.counts_text.ensures)
+    c.in_err-write_text.ensures))

@@ -8,15 +8,14 @@ use Rattle.cartridge_check.proofs.checking.check_started.Goals as goal
 
 pub check_segments-requires-clause-agrees : goal.check_segments-requires-clause-agrees
 check_segments-requires-clause-agrees g c =
-    agrees_tape g.T.Tape.means c.args.unit.now c.enter_primary.new.unit c.in-Ok.ensures.cartridge c.in-Ok.ensures.tape c.requires.agrees
+    agrees_tape g.T.Tape.means c.args.unit.now c.enter_primary.new.unit c.enter_primary.ensures.cartridge c.enter_primary.ensures.tape
+    c.requires.agrees
 
-pub returns-in-Ok : goal.returns-in-Ok
-returns-in-Ok g c =
+pub returns : goal.returns
+returns g c =
     subst (λ tape. CheckEnds g.T.Tape.means g.K.Sink.means (around tape c.args.sink.now)
-    (around c.check_segments.new.unit.tape c.check_segments.new.sink) c.check_segments.result) c.in-Ok.ensures.tape c.check_segments.ensures
-
-pub returns-in-Err : goal.returns-in-Err
-returns-in-Err g c = let no = c.in-Err.ensures.ok in absurd (cc)
+    (around c.check_segments.new.unit.tape c.check_segments.new.sink) c.check_segments.result) c.enter_primary.ensures.tape
+    c.check_segments.ensures
 
 pub returns-then-not-referenced : goal.returns-then-not-referenced
 returns-then-not-referenced g c =

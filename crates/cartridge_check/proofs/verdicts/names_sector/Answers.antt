@@ -17,11 +17,11 @@ pub returns-then-from-lt-DATA_SECTORS-clause-named : goal.returns-then-from-lt-D
 returns-then-from-lt-DATA_SECTORS-clause-named g c =
     let sector : ℕ = c.args.sector in
     let low : nat_lt sector 29 ≡ true = lt-ltb sector 29 (omega (arith, c.if-from-lt-DATA_SECTORS.true, c.from.ensures)) in
-    Tells-map g.T.Tape.means c.args.unit.now.tape (λ c'. Gathered (table_cells c') c.in-Ok.lost c.collect.new.work)
+    Tells-map g.T.Tape.means c.args.unit.now.tape (λ c'. Gathered (table_cells c') c.in_ok-lost.lost c.collect.new.work)
     (λ c'. is_named c' (whole_segment 2) sector ≡ not c.is_last_used.result)
     (λ c' gathered.
-    named_by c' c.in-Ok.lost c.last_used-used.result c.data_sectors.result.now c.collect.new.work sector gathered
+    named_by c' c.in_ok-lost.lost c.last_used-used.result c.data_sectors.result.now c.collect.new.work sector gathered
     c.data_sectors.ensures.size c.data_sectors.ensures.value c.last_used-used.ensures.cells
     ∙ ap (λ (b : Bool). b && not (is_last_used c.last_used-used.result sector)) low
     ∙ sym (ap not c.is_last_used.ensures))
-    c.in-Ok.ensures.gathered
+    c.in_ok-lost.ensures.gathered

@@ -5,7 +5,7 @@ use Rattle.qic_base.specs.TapeCalls.{Tells}
 use Rattle.cartridge_spec.specs.TableSegment.{TableIs}
 use Rattle.cartridge_spec.specs.Table.{Entry, Shows}
 use Rattle.segment_io.specs.declared.fault.SegFault.{SegFault}
-use Rattle.cartridge_front.specs.declared.fault.StoreFault.{StoreFault}
+use Rattle.segment_io.specs.declared.fault.StoreFault.{StoreFault}
 use Rattle.cartridge_front.specs.declared.table_reader.Unread.{Unread}
 use Rattle.cartridge_front.specs.Again.{FindsList}
 use Rattle.cartridge_front.specs.Finding.{FindsTable, refusal_of}

@@ -2,11 +2,11 @@ use Rattle.std.proofs.Common.{◌≡◌, ℕ, ◌++◌, Bool, List, Err, sym, ap
 use Rattle.cartridge_laws.specs.Segment.{sectors_of}
 use Rattle.drive_spec.specs.Terms.{is_protected}
 use Rattle.cartridge_spec.specs.Settling.{block_writes}
-use Rattle.cartridge_front.specs.declared.fault.StoreFault.{StoreFault}
+use Rattle.qic_base.specs.declared.tape.TapeFailed.{TapeFailed}
 use Rattle.cartridge_front.specs.Settling.{mending_steps}
 use Rattle.cartridge_front.proofs.Adding.{does_after, broke_front}
 use Rattle.cartridge_front.proofs.Mending.{mend_both, data_kept}
-use Rattle.cartridge_front.proofs.Passing.{passed}
+use Rattle.command_laws.proofs.Passing.{passed}
 use Rattle.cartridge_front.proofs.settling.settle.Goals as goal
 
 pub returns-clause-did : goal.returns-clause-did
@@ -32,7 +32,7 @@ returns-in_err-write_places-clause-did g c =
     c.renew_parity-stale.ensures.stale
     ∙ ap (λ (b : Bool). mending_steps b c.args.unread c.args.work.now)
     (c.if-protected.ensures ∙ sym (ap is_protected c.requires.ready.fits.deck)) in
-    let fault : StoreFault = c.in_err-write_places.field-0.0 in
+    let fault : TapeFailed = c.in_err-write_places.field-0.0 in
     let is : c.from_residual.result ≡ Err fault = passed c.from_residual.result fault c.from_residual.ensures.1 in
     broke_front g.T.Tape.means c.args.unit.now.tape c.write_places.new.unit.tape
     (block_writes new (sectors_of c.args.unread.left_out)) (block_writes new (sectors_of c.renew_parity-stale.result))

@@ -9,9 +9,9 @@ use Rattle.cartridge_laws.specs.Segment.{sectors_of}
 use Rattle.cartridge_spec.specs.Table.{slot_bytes}
 use Rattle.cartridge_spec.specs.Settling.{block_writes}
 use Rattle.volume_table.specs.Entry.{entry_of}
-use Rattle.cartridge_front.specs.declared.fault.StoreFault.{StoreFault}
+use Rattle.qic_base.specs.declared.tape.TapeFailed.{TapeFailed}
 use Rattle.cartridge_front.proofs.Adding.{slot_writes, parity_writes, both_writes, does_after, broke_front}
-use Rattle.cartridge_front.proofs.Passing.{passed}
+use Rattle.command_laws.proofs.Passing.{passed}
 use Rattle.cartridge_front.proofs.table_writer.write_entry.Goals as goal
 
 pub returns-clause-did : goal.returns-clause-did
@@ -48,7 +48,7 @@ returns-in_err-write_places-clause-did g c =
     let one : block_writes block (sectors_of c.from_mask.result) ≡ block_writes (with_parity area) (sector ∷ []) =
     ap (λ (places : ℕ). block_writes block (sectors_of places)) c.from_mask.ensures
     ∙ slot_writes block area sector c.put_entry-changed.ensures.block within in
-    let fault : StoreFault = c.in_err-write_places.field-0.0 in
+    let fault : TapeFailed = c.in_err-write_places.field-0.0 in
     let is : c.from_residual.result ≡ Err fault = passed c.from_residual.result fault c.from_residual.ensures.1 in
     broke_front m c.args.unit.now.tape c.write_places.new.unit.tape
     (block_writes (with_parity area) (sector ∷ [])) (block_writes (with_parity area) (29 ∷ 30 ∷ 31 ∷ []))

@@ -1,5 +1,7 @@
-use Rattle.std.proofs.Common.{◌≡◌, [], ℕ, ◌<◌, ◌^◌, sym, ap, ◌∙◌, subst, arith}
-use Rattle.qic_base.specs.Tape.{Done, Broke}
+use Rattle.std.proofs.Common.{◌≡◌, [], List, ℕ, ◌<◌, ◌^◌, sym, ap, ◌∙◌, subst, arith}
+use Rattle.qic_base.specs.Step.{Step}
+use Rattle.qic_base.specs.Tape.{Done}
+use Rattle.qic_base.specs.TapeCalls.{Does}
 use Rattle.qic_base.proofs.Steps.{Done-nothing}
 use Rattle.cartridge_laws.specs.Segment.{sectors_of}
 use Rattle.cartridge_laws.proofs.Segments.{count_of_whole}
@@ -15,15 +17,11 @@ write_sectors-requires-clause-segment g c = front_segment 2 c.requires.ready.fit
 pub write_sectors-requires-clause-within : goal.write_sectors-requires-clause-within
 write_sectors-requires-clause-within g c = subst (λ (n : ℕ). c.args.places < 2 ^ n) (sym count_of_whole) c.requires.within
 
-pub returns-in-Ok-clause-did : goal.returns-in-Ok-clause-did
-returns-in-Ok-clause-did g c =
-    subst (Done g.T.Tape.means c.args.unit.now.tape c.write_sectors.new.unit.tape)
-    (named_places c.args.places c.args.work.now) c.in-Ok.ensures.did
-
-pub returns-in-Err-Tape-clause-did : goal.returns-in-Err-Tape-clause-did
-returns-in-Err-Tape-clause-did g c =
-    subst (Broke g.T.Tape.means c.args.unit.now.tape c.write_sectors.new.unit.tape)
-    (named_places c.args.places c.args.work.now) c.in-Err-Tape.ensures.did
+pub returns-clause-did : goal.returns-clause-did
+returns-clause-did g c =
+    let m = g.T.Tape.means in
+    subst (λ (steps : List Step). Does m c.args.unit.now.tape c.write_sectors.new.unit.tape steps c.write_sectors.result)
+    (named_places c.args.places c.args.work.now) c.write_sectors.ensures.did
 
 pub returns-then-mask-eq0-clause-did : goal.returns-then-mask-eq0-clause-did
 returns-then-mask-eq0-clause-did g c =

@@ -1,10 +1,10 @@
 use Rattle.std.proofs.Common.{◌≡◌, ℕ, ◌-◌, ◌*◌, List, take, Err, subst, sym, ap, ◌∙◌}
 use Rattle.host_driver.specs.Fits.{segments_of}
-use Rattle.cartridge_front.specs.declared.fault.StoreFault.{StoreFault}
+use Rattle.segment_io.specs.declared.fault.StoreFault.{StoreFault}
 use Rattle.qic_base.proofs.Steps.{Tells-map}
 use Rattle.cartridge_spec.specs.TableSegment.{TableIs}
 use Rattle.cartridge_front.specs.Finding.{NamesCause, FindsVolumes}
-use Rattle.cartridge_front.proofs.Passing.{passed}
+use Rattle.command_laws.proofs.Passing.{passed}
 use Rattle.cartridge_front.proofs.TableSegment.{finds_bad}
 use Rattle.cartridge_front.proofs.volume_reader.read_volumes.Goals as goal
 

@@ -4,12 +4,11 @@ use Rattle.qic_base.specs.Step.{FormatSegment}
 use Rattle.qic_base.specs.Tape.{Done, Broke}
 use Rattle.qic117_commands.specs.Views.{is_format}
 use Rattle.drive_spec.specs.Deck.{segments_per_track, is_streaming}
-use Rattle.host_driver.specs.Place.{StreamsAt}
 use Rattle.host_driver.proofs.Keeping.{keeps_both, mode_kept}
 use Rattle.segment_io.proofs.Going.{done_moved}
 use Rattle.formatter.specs.Steps.{track_formats}
 use Rattle.formatter.proofs.Parts.{done_one, broke_one}
-use Rattle.formatter.proofs.Places.{length_kept, before_first, before_next}
+use Rattle.formatter.proofs.Places.{length_kept, some_segments, before_first, before_next}
 use Rattle.cartridge_laws.specs.FormatMarks.{formats_from}
 use Rattle.formatter.proofs.clearing.clear_track.Goals as goal
 
@@ -17,9 +16,9 @@ pub loop-preserved : goal.loop-preserved
 loop-preserved g c =
     let before = c.loop.invariant in
     let more = c.in_ok-format_here.ensures in
-    let n : ℕ = c.in_ok-count.count in
+    let n : ℕ = c.go_to_track-count.result in
     let count : n ≡ segments_per_track c.args.unit.now.drive.deck =
-    c.in_ok-count.ensures.count in
+    c.go_to_track-count.ensures.count in
     let within : c.loop.counter < n = c.loop-test.true in
     let at = before.before.streams within in
     record {
@@ -37,9 +36,9 @@ loop-preserved g c =
 pub returns-in_err-format_here-clause-did : goal.returns-in_err-format_here-clause-did
 returns-in_err-format_here-clause-did g c =
     let before = c.loop.invariant in
-    let n : ℕ = c.in_ok-count.count in
+    let n : ℕ = c.go_to_track-count.result in
     let count : n ≡ segments_per_track c.args.unit.now.drive.deck =
-    c.in_ok-count.ensures.count in
+    c.go_to_track-count.ensures.count in
     let within : c.loop.counter < n = c.loop-test.true in
     let at = before.before.streams within in
     let broke : Broke g.T.Tape.means c.args.unit.now.tape c.format_here.new.unit.tape (track_formats n c.args.track) =
@@ -49,24 +48,19 @@ returns-in_err-format_here-clause-did g c =
     let whole : Broke g.T.Tape.means c.args.unit.now.tape c.format_here.new.unit.tape
     (track_formats (segments_per_track c.args.unit.now.drive.deck) c.args.track) =
     subst (λ (k : ℕ). Broke g.T.Tape.means c.args.unit.now.tape c.format_here.new.unit.tape (track_formats k c.args.track)) count broke in
-    let p = err_from_is_err_and c.from_residual-in_err-format_here.result c.from_residual-in_err-format_here.ensures.1 in
+    let p = err_from_is_err_and c.from_residual.result c.from_residual.ensures.1 in
     rw p.1 whole
-
-pub returns-in_err-count : goal.returns-in_err-count
-returns-in_err-count g c = let no = c.in_err-count.ensures.ok in absurd (cc)
 
 pub loop-init : goal.loop-init
 loop-init g c =
-    let n : ℕ = c.in_ok-count.count in
-    let count : n ≡ segments_per_track c.args.unit.now.drive.deck = c.in_ok-count.ensures.count in
-    let some : 0 < n = omega (arith, count, c.in_ok-count.ensures.some) in
+    let n : ℕ = c.go_to_track-count.result in
+    let some : 0 < n = subst (λ (k : ℕ). 0 < k) (sym c.go_to_track-count.ensures.count) (some_segments c.requires.ready.ready.fits) in
     record {
-      formatted = done_moved g.T.Tape.means c.args.unit.now.tape c.go_to_track.new.unit.tape c.in_ok-count.ensures.tape;
-      before = before_first n (c.args.track * n) c.go_to_track.new.unit.drive.deck some
-          (subst (λ (k : ℕ). StreamsAt (c.args.track * k) 0 c.go_to_track.new.unit.drive.deck) (sym count) c.in_ok-count.ensures.place);
-      mode = mode_kept is_format true c.args.unit.now.drive.deck c.go_to_track.new.unit.drive.deck c.in_ok-count.ensures.keeps.same
-          c.requires.format;
-      keeps = c.in_ok-count.ensures.keeps;
+      formatted = done_moved g.T.Tape.means c.args.unit.now.tape c.go_to_track-count.new.unit.tape c.go_to_track-count.ensures.tape;
+      before = before_first n (c.args.track * n) c.go_to_track-count.new.unit.drive.deck some c.go_to_track-count.ensures.place;
+      mode = mode_kept is_format true c.args.unit.now.drive.deck c.go_to_track-count.new.unit.drive.deck
+          c.go_to_track-count.ensures.keeps.same c.requires.format;
+      keeps = c.go_to_track-count.ensures.keeps;
     }
 
 pub format_here-requires-clause-ready : goal.format_here-requires-clause-ready
@@ -78,14 +72,9 @@ format_here-requires-clause-formatting g c = record {
   streams = ap is_streaming (c.loop.invariant.before.streams c.loop-test.true).motion;
 }
 
-pub returns-in_err-format_here-clause-fault : goal.returns-in_err-format_here-clause-fault
-returns-in_err-format_here-clause-fault g c =
-    let p = err_from_is_err_and c.from_residual-in_err-format_here.result c.from_residual-in_err-format_here.ensures.1 in
-    rw p.1 (p.2 ∙ c.in_err-format_here.ensures.fault)
-
 pub returns-in_err-format_here-clause-stopped : goal.returns-in_err-format_here-clause-stopped
 returns-in_err-format_here-clause-stopped g c =
-    let p = err_from_is_err_and c.from_residual-in_err-format_here.result c.from_residual-in_err-format_here.ensures.1 in
+    let p = err_from_is_err_and c.from_residual.result c.from_residual.ensures.1 in
     rw p.1 tt
 
 pub returns-in_err-format_here-clause-keeps : goal.returns-in_err-format_here-clause-keeps
@@ -93,9 +82,9 @@ returns-in_err-format_here-clause-keeps g c = keeps_both c.loop.invariant.keeps 
 
 pub returns-clause-did : goal.returns-clause-did
 returns-clause-did g c =
-    let n : ℕ = c.in_ok-count.count in
+    let n : ℕ = c.go_to_track-count.result in
     let count : n ≡ segments_per_track c.args.unit.now.drive.deck =
-    c.in_ok-count.ensures.count in
+    c.go_to_track-count.ensures.count in
     let all : c.loop.counter ≡ n = omega arith in
     subst (λ (k : ℕ). Done g.T.Tape.means c.args.unit.now.tape c.loop.unit.tape (track_formats k c.args.track)) count
     (subst (λ (k : ℕ). Done g.T.Tape.means c.args.unit.now.tape c.loop.unit.tape (formats_from (c.args.track * n) k)) all

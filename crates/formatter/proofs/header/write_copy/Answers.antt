@@ -12,14 +12,14 @@ use Rattle.formatter.proofs.Copies.{all_count, copy_is}
 use Rattle.formatter.proofs.header.write_copy.Goals as goal
 
 pub write_sectors-requires-clause-segment : goal.write_sectors-requires-clause-segment
-write_sectors-requires-clause-segment g c = front_segment c.args.copy c.requires.ready.fits c.requires.referenced (omega arith)
+write_sectors-requires-clause-segment g c = front_segment c.args.copy c.requires.ready.ready.fits c.requires.ready.referenced (omega arith)
 
 pub write_sectors-requires-2-clause-segment : goal.write_sectors-requires-2-clause-segment
 write_sectors-requires-2-clause-segment g c =
     let kept = c.write_sectors.ensures.keeps in
     front_segment c.args.copy kept.ready.fits
     (cartridge_kept (λ info. info.referenced) true c.args.unit.now.drive.deck c.write_sectors.new.unit.drive.deck kept.same
-    c.requires.referenced) (omega arith)
+    c.requires.ready.referenced) (omega arith)
 
 pub write_sectors-requires-clause-within : goal.write_sectors-requires-clause-within
 write_sectors-requires-clause-within g c =

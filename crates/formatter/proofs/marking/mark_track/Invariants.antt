@@ -14,7 +14,6 @@ invariant-loop-offset g l = record {
   marks : Tells g.T.Tape.means l.fn.unit.tape (λ c.
       MarksBelow c l.fn.map (32 * l.first) → MarksBelow c l.map (32 * (l.first + l.offset)));
   words : length l.map ≡ length l.fn.map;
-  room : length l.sectors ≡ length l.fn.sectors;
   before : IsBefore l.count l.first l.offset l.unit.drive.deck;
   mode : reads_in l.unit.drive.deck.mode ≡ true;
   keeps : Keeps g.T.Tape.means l.host l.fn.unit l.unit;

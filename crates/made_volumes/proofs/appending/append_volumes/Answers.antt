@@ -1,14 +1,14 @@
 use Rattle.std.proofs.Common.{◌≡◌, Err, Ok, ◌∙◌, arith}
 use Rattle.std.proofs.lemmas.Grind.{common_steps}
 use Rattle.qic_base.specs.Alone.{around}
-use Rattle.made_volumes.specs.declared.fault.MakeFault.{MakeFault}
+use Rattle.segment_io.specs.declared.fault.StoreFault.{StoreFault}
 use Rattle.made_volumes.proofs.Going.{append_next, append_failed, append_listed}
 use Rattle.made_volumes.proofs.Listing.{listed_loop}
 use Rattle.made_volumes.proofs.appending.append_volumes.Goals as goal
 
 pub returns-in_err-append_volume-clause-ends : goal.returns-in_err-append_volume-clause-ends
 returns-in_err-append_volume-clause-ends g c =
-    let fault : MakeFault = c.in_err-append_volume.field-0.0 in
+    let fault : StoreFault = c.in_err-append_volume.field-0.0 in
     let is : c.from_residual.result ≡ Err fault = grind (arith, common_steps, c.from_residual.ensures) in
     let before = c.loop-volume.invariant in
     rw is (append_failed g.T.Tape.means c.args.seed c.args.store.now.words c.args.store.now.entries c.loop-volume.volume before.from
@@ -18,7 +18,7 @@ returns-in_err-append_volume-clause-ends g c =
 
 pub returns-in_err-append_volume-clause-list : goal.returns-in_err-append_volume-clause-list
 returns-in_err-append_volume-clause-list g c =
-    let fault : MakeFault = c.in_err-append_volume.field-0.0 in
+    let fault : StoreFault = c.in_err-append_volume.field-0.0 in
     let is : c.from_residual.result ≡ Err fault = grind (arith, common_steps, c.from_residual.ensures) in
     let before = c.loop-volume.invariant in
     rw is (listed_loop g.T.Tape.means c.args.seed c.args.count c.loop-volume.volume before.from (omega arith) c.args.store.now

@@ -3,16 +3,17 @@ use Rattle.std.proofs.lemmas.Grind.{common_steps}
 use Rattle.qic_base.specs.Alone.{around, no_sink}
 use Rattle.cartridge_spec.specs.Table.{Entry}
 use Rattle.volume_store.specs.Mounting.{StoreView}
-use Rattle.made_volumes.specs.declared.fault.MakeFault.{MakeFault}
+use Rattle.segment_io.specs.declared.fault.StoreFault.{StoreFault}
 use Rattle.command_spec.specs.Make.{ScrubAll, made_list}
 use Rattle.made_volumes.proofs.Going.{same_store, wears_of_made, sums_of_made, make_unappended, make_appended, make_unworn, make_worn}
 use Rattle.made_volumes.proofs.Going.{make_unscrubbed, make_scrubbed}
+use Rattle.made_volumes.proofs.Listing.{listed_behind}
 use Rattle.command_laws.proofs.MadeLoops.{length-made}
 use Rattle.made_volumes.proofs.run.make_volumes.Goals as goal
 
 pub returns-in_err-append_volumes-clause-ends : goal.returns-in_err-append_volumes-clause-ends
 returns-in_err-append_volumes-clause-ends g c =
-    let fault : MakeFault = c.in_err-append_volumes.field-0.0 in
+    let fault : StoreFault = c.in_err-append_volumes.field-0.0 in
     let is : c.from_residual.result ≡ Err fault = grind (arith, common_steps, c.from_residual.ensures) in
     let words : List ℕ = c.args.store.now.words in
     let es : List Entry = c.args.store.now.entries in
@@ -30,7 +31,7 @@ wear_volumes-requires-clause-first g c =
 
 pub returns-in_err-wear_volumes-clause-ends : goal.returns-in_err-wear_volumes-clause-ends
 returns-in_err-wear_volumes-clause-ends g c =
-    let fault : MakeFault = c.in_err-wear_volumes.field-0.0 in
+    let fault : StoreFault = c.in_err-wear_volumes.field-0.0 in
     let is : c.from_residual-in_err-wear_volumes.result ≡ Err fault =
     grind (arith, common_steps, c.from_residual-in_err-wear_volumes.ensures) in
     let words : List ℕ = c.args.store.now.words in
@@ -51,7 +52,7 @@ returns-in_err-wear_volumes-clause-ends g c =
 
 pub returns-in_err-scrub-clause-ends : goal.returns-in_err-scrub-clause-ends
 returns-in_err-scrub-clause-ends g c =
-    let fault : MakeFault = c.in_err-scrub.field-0.0 in
+    let fault : StoreFault = c.in_err-scrub.field-0.0 in
     let is : c.from_residual-in_err-scrub.result ≡ Err fault = grind (arith, common_steps, c.from_residual-in_err-scrub.ensures) in
     let words : List ℕ = c.args.store.now.words in
     let es : List Entry = c.args.store.now.entries in
@@ -121,3 +122,29 @@ returns-clause-ends g c =
     c.count-first.result (around e y) (around f z) r
     (c.in_ok-scrub.ensures.store.words ∙ worn_words) (c.in_ok-scrub.ensures.store.entries ∙ worn_list) c.count-first.ensures.count
     (c.sum_volumes.ensures.ends c.args.seed))))
+
+pub returns-in_err-wear_volumes-clause-list : goal.returns-in_err-wear_volumes-clause-list
+returns-in_err-wear_volumes-clause-list g c =
+    let fault : StoreFault = c.in_err-wear_volumes.field-0.0 in
+    let is : c.from_residual-in_err-wear_volumes.result ≡ Err fault =
+    grind (arith, common_steps, c.from_residual-in_err-wear_volumes.ensures) in
+    rw is (listed_behind g.T.Tape.means no_sink c.args.seed c.args.count c.args.store.now c.wear_volumes.new.store _ _ _ _ _ (Err fault)
+    (ap (λ (s : StoreView). s.entries) c.in_err-wear_volumes.ensures.store ∙ c.in_ok-append_volumes.ensures.list)
+    c.in_err-wear_volumes.ensures.room (c.in_err-wear_volumes.ensures.ends c.args.seed))
+
+pub returns-in_err-scrub-clause-list : goal.returns-in_err-scrub-clause-list
+returns-in_err-scrub-clause-list g c =
+    let fault : StoreFault = c.in_err-scrub.field-0.0 in
+    let is : c.from_residual-in_err-scrub.result ≡ Err fault = grind (arith, common_steps, c.from_residual-in_err-scrub.ensures) in
+    rw is (listed_behind g.T.Tape.means g.K.Sink.means c.args.seed c.args.count c.args.store.now c.scrub.new.store _ _ _ _ _ (Err fault)
+    (c.in_err-scrub.ensures.store.entries ∙ ap (λ (s : StoreView). s.entries) c.in_ok-wear_volumes.ensures.store
+    ∙ c.in_ok-append_volumes.ensures.list)
+    c.in_err-scrub.ensures.room (c.in_err-scrub.ensures.ends c.args.seed))
+
+pub returns-clause-list : goal.returns-clause-list
+returns-clause-list g c =
+    listed_behind g.T.Tape.means g.K.Sink.means c.args.seed c.args.count c.args.store.now c.sum_volumes.new.store _ _ _ _ _
+    c.sum_volumes.result
+    (c.sum_volumes.ensures.store.entries ∙ c.in_ok-scrub.ensures.store.entries
+    ∙ ap (λ (s : StoreView). s.entries) c.in_ok-wear_volumes.ensures.store ∙ c.in_ok-append_volumes.ensures.list)
+    c.sum_volumes.ensures.room (c.sum_volumes.ensures.ends c.args.seed)

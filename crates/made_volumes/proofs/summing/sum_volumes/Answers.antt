@@ -1,7 +1,7 @@
 use Rattle.std.proofs.Common.{◌≡◌, ℕ, ◌+◌, ◌-◌, [], ◌∷◌, length, Err, Ok, refl, ◌∙◌, subst, arith}
 use Rattle.std.proofs.lemmas.Grind.{common_steps}
 use Rattle.qic_base.specs.Alone.{around}
-use Rattle.made_volumes.specs.declared.fault.MakeFault.{MakeFault}
+use Rattle.segment_io.specs.declared.fault.StoreFault.{StoreFault}
 use Rattle.command_spec.specs.Make.{SumVolume, summing}
 use Rattle.made_volumes.specs.Runs.{HasRun}
 use Rattle.made_volumes.proofs.Going.{sums_begun, sums_next, sums_failed, same_store}
@@ -19,7 +19,7 @@ loop-number-init g c = record {
 
 pub returns-in_err-sum_volume-clause-ends : goal.returns-in_err-sum_volume-clause-ends
 returns-in_err-sum_volume-clause-ends g c = λ seed.
-    let fault : MakeFault = c.in_err-sum_volume.field-0.0 in
+    let fault : StoreFault = c.in_err-sum_volume.field-0.0 in
     let is : c.from_residual.result ≡ Err fault = grind (arith, common_steps, c.from_residual.ensures) in
     let before = c.loop-number.invariant in
     rw is (sums_failed g.T.Tape.means g.K.Sink.means g.met.K.Sink.took_both c.args.store.now.words c.args.store.now.entries c.args.first

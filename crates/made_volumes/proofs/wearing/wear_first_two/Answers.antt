@@ -6,7 +6,7 @@ use Rattle.qic_base.specs.CartridgeTerms.{IsLost}
 use Rattle.cartridge_spec.specs.Shape.{mask_at}
 use Rattle.drive_states.specs.Unit.{UnitView}
 use Rattle.volume_store.specs.Mounting.{StoreView}
-use Rattle.made_volumes.specs.declared.fault.MakeFault.{MakeFault}
+use Rattle.segment_io.specs.declared.fault.StoreFault.{StoreFault}
 use Rattle.command_spec.specs.Make.{WearSector}
 use Rattle.command_laws.specs.MadeTerms.{wearing}
 use Rattle.made_volumes.specs.Runs.{HasRun, RunEnds}
@@ -29,7 +29,7 @@ loop-sector-init g c = record {
 
 pub returns-in_err-wear_sector-clause-ends : goal.returns-in_err-wear_sector-clause-ends
 returns-in_err-wear_sector-clause-ends g c = λ seed.
-    let fault : MakeFault = c.in_err-wear_sector.field-0.0 in
+    let fault : StoreFault = c.in_err-wear_sector.field-0.0 in
     let is : c.from_residual.result ≡ Err fault = grind (arith, common_steps, c.from_residual.ensures) in
     let before = c.loop-sector.invariant in
     let mask_is : c.from_mask-usable.result ≡ mask_at c.args.store.now.words c.args.segment = c.from_mask-usable.ensures

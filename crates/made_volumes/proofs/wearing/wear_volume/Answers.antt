@@ -4,7 +4,7 @@ use Rattle.qic_base.specs.Alone.{around, no_sink}
 use Rattle.cartridge_spec.specs.Volumes.{carrying, carrying_segments}
 use Rattle.volume_table.specs.Entry.{entry_of}
 use Rattle.volume_store.specs.Mounting.{StoreView}
-use Rattle.made_volumes.specs.declared.fault.MakeFault.{MakeFault}
+use Rattle.segment_io.specs.declared.fault.StoreFault.{StoreFault}
 use Rattle.command_spec.specs.Make.{wearing_in}
 use Rattle.made_volumes.specs.Runs.{HasRun, RunEnds}
 use Rattle.made_volumes.proofs.Going.{segments_begun, segments_next, segments_failed, of_entry}
@@ -39,7 +39,7 @@ wear_if_due-requires-clause-segment g c =
 
 pub returns-in_err-wear_if_due-clause-ends : goal.returns-in_err-wear_if_due-clause-ends
 returns-in_err-wear_if_due-clause-ends g c = λ seed.
-    let fault : MakeFault = c.in_err-wear_if_due.field-0.0 in
+    let fault : StoreFault = c.in_err-wear_if_due.field-0.0 in
     let is : c.from_residual.result ≡ Err fault = grind (arith, common_steps, c.from_residual.ensures) in
     let before = c.loop-segment.invariant in
     let start : ℕ = c.entry-entry.result.now.start in

@@ -5,7 +5,7 @@ use Rattle.qic_base.specs.Alone.{around, no_sink}
 use Rattle.cartridge_spec.specs.Table.{Entry}
 use Rattle.cartridge_spec.specs.Volumes.{carrying_segments}
 use Rattle.volume_store.specs.Mounting.{StoreView}
-use Rattle.made_volumes.specs.declared.fault.MakeFault.{MakeFault}
+use Rattle.segment_io.specs.declared.fault.StoreFault.{StoreFault}
 use Rattle.command_spec.specs.Make.{wearing_in, wearing_volumes}
 use Rattle.made_volumes.specs.Runs.{HasRun, RunEnds}
 use Rattle.made_volumes.proofs.Going.{volumes_begun, volume_there, volumes_go_on, volumes_failed}
@@ -22,7 +22,7 @@ loop-index-init g c = record {
 
 pub returns-in_err-wear_volume-clause-ends : goal.returns-in_err-wear_volume-clause-ends
 returns-in_err-wear_volume-clause-ends g c = λ seed.
-    let fault : MakeFault = c.in_err-wear_volume.field-0.0 in
+    let fault : StoreFault = c.in_err-wear_volume.field-0.0 in
     let is : c.from_residual.result ≡ Err fault = grind (arith, common_steps, c.from_residual.ensures) in
     let before = c.loop-index.invariant in
     let within : c.loop-index.index < length c.args.store.now.entries = omega (arith, c.count-index-end.ensures.count) in

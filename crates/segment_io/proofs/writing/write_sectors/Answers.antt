@@ -67,7 +67,7 @@ returns-in_err-write_usable-clause-did g c =
     let whole : B (named_writes c.args.segment c.args.usable c.args.places c.args.work.now) =
     subst (λ (ss : List (List ℕ)). B (named_writes c.args.segment c.args.usable c.args.places ss)) c.sectors-sectors.ensures.value
     (subst B (sym front.parts) (Broke-front {xs = writes_below c.args.segment c.args.usable c.args.places sectors k} front.rest broke)) in
-    let p = err_from_is_err_and c.from_residual-in_err-write_usable.result c.from_residual-in_err-write_usable.ensures.1 in
+    let p = err_from_is_err_and c.from_residual.result c.from_residual.ensures.1 in
     rw p.1 whole
 
 pub returns-clause-did : goal.returns-clause-did

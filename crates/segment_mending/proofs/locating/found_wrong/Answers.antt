@@ -1,4 +1,4 @@
-use Rattle.std.proofs.Common.{◌≡◌, ℕ, ◌<◌, List, arith, subst, sym, take, Some, true, false}
+use Rattle.std.proofs.Common.{◌≡◌, ℕ, ◌<◌, List, arith, refl, subst, sym, take, Some, true, false}
 use Rattle.cartridge_laws.proofs.Places.{count_below, usable_small}
 use Rattle.cartridge_spec.specs.Shape.{usable_count}
 use Rattle.cartridge_spec.specs.Volumes.{worn}
@@ -13,7 +13,7 @@ returns-then-not-can_be_read-clause-found c =
     λ c' names deep.
     let l : Looked = record { segment = c.args.segment; mask = c.args.usable } in
     let block : List (List ℕ) = take (usable_count c.args.usable) c.args.work.now in
-    let unfit : reads l (data_in l c.args.work.now) ≡ false = c.if-not-can_be_read.ensures c.args.usable c.requires.whole in
+    let unfit : reads l (data_in l c.args.work.now) ≡ false = c.if-not-can_be_read.ensures c.args.usable c.requires.block.whole in
     record { finds = finding.found_unfit (Unit {0}) c' l c.args.place block deep unfit; places = tt }
 
 pub with_place-requires : goal.with_place-requires
@@ -24,7 +24,7 @@ returns-clause-found c =
     λ c' names deep.
     let l : Looked = record { segment = c.args.segment; mask = c.args.usable } in
     let block : List (List ℕ) = take (usable_count c.args.usable) c.args.work.now in
-    let can : reads l (data_in l c.args.work.now) ≡ true = c.if-not-can_be_read.ensures c.args.usable c.requires.whole in
+    let can : reads l (data_in l c.args.work.now) ≡ true = c.if-not-can_be_read.ensures c.args.usable c.requires.block.whole in
     record {
       finds = subst (λ (sector : ℕ). HasFoundBy (Unit {0}) c' l (data_in l c.args.work.now) (Some sector)) (sym c.index_at.ensures)
           (finding.found_wrong (Unit {0}) c' l c.args.place block tt c.requires.place deep can);
@@ -37,12 +37,18 @@ returns-clause-found c =
 pub returns-clause-may : goal.returns-clause-may
 returns-clause-may c =
     let l : Looked = record { segment = c.args.segment; mask = c.args.usable } in
-    let can : reads l (data_in l c.args.work.now) ≡ true = c.if-not-can_be_read.ensures c.args.usable c.requires.whole in
+    let can : reads l (data_in l c.args.work.now) ≡ true = c.if-not-can_be_read.ensures c.args.usable c.requires.block.whole in
     let small : c.index_at.result < 32 =
     subst (λ (sector : ℕ). sector < 32) (sym c.index_at.ensures) (usable_small c.args.usable c.args.place c.requires.place) in
     record {
-      within = c.with_place.ensures.below (usable_count c.args.usable) c.requires.place c.requires.within;
-      code = c.requires.code;
-      can_be_read = can;
-      may = (tt, small);
+      fits = record {
+        within = c.with_place.ensures.below (usable_count c.args.usable) c.requires.place c.requires.block.within;
+        code = c.requires.block.code;
+        can_be_read = can;
+        may = (tt, small);
+      };
+      count = λ is. tt;
     }
+
+pub returns-then-not-can_be_read-clause-may : goal.returns-then-not-can_be_read-clause-may
+returns-then-not-can_be_read-clause-may c = record { fits = refl; count = λ is. tt }

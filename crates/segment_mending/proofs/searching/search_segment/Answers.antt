@@ -7,18 +7,19 @@ use Rattle.segment_mending.specs.declared.searching.Searched.{Searched}
 use Rattle.segment_mending.proofs.WithoutPlaces.{searched_finds, searched_may}
 use Rattle.segment_mending.proofs.searching.search_segment.Goals as goal
 
-pub returns-in-Ok-clause-found : goal.returns-in-Ok-clause-found
-returns-in-Ok-clause-found g c =
+pub returns-clause-found : goal.returns-clause-found
+returns-clause-found g c =
     let l : Looked = record { segment = c.args.segment; mask = c.args.usable } in
-    let work : List (List ℕ) = c.find_deep.new.work in
-    Tells-map g.T.Tape.means c.args.unit.now.tape (λ c'. DeepFinds c' l c.in-Ok.found work)
+    let work : List (List ℕ) = c.find_in_segment.new.work in
+    Tells-map g.T.Tape.means c.args.unit.now.tape (λ c'. DeepFinds c' l c.in_ok-found.found work)
     (λ c'. SearchFinds c' l c.without_places.result work)
-    (λ c' is. subst (λ (s : Searched). SearchFinds c' l s work) (sym c.without_places.ensures) (searched_finds c' l c.in-Ok.found work is))
-    c.in-Ok.ensures.found
+    (λ c' is. subst (λ (s : Searched). SearchFinds c' l s work) (sym c.without_places.ensures)
+    (searched_finds c' l c.in_ok-found.found work is))
+    c.in_ok-found.ensures.found.told
 
-pub returns-in-Ok-clause-may : goal.returns-in-Ok-clause-may
-returns-in-Ok-clause-may g c =
+pub returns-clause-may : goal.returns-clause-may
+returns-clause-may g c =
     let l : Looked = record { segment = c.args.segment; mask = c.args.usable } in
-    let work : List (List ℕ) = c.find_deep.new.work in
+    let work : List (List ℕ) = c.find_in_segment.new.work in
     subst (λ (s : Searched). SearchMayFind l s work) (sym c.without_places.ensures)
-    (searched_may l c.in-Ok.found work c.in-Ok.ensures.may c.in-Ok.ensures.count)
+    (searched_may l c.in_ok-found.found work c.in_ok-found.ensures.found.may)

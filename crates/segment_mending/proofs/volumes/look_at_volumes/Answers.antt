@@ -1,26 +1,23 @@
-use Rattle.std.proofs.Common.{◌≡◌, ℕ, ◌+◌, ◌-◌, ◌++◌, List, take, drop, length, sym, ap, subst, ◌∙◌, arith, Err, refl}
+use Rattle.std.proofs.Common.{◌≡◌, ℕ, ◌+◌, ◌-◌, ◌++◌, List, take, drop, length, sym, ap, subst, ◌∙◌, arith, Err}
 use Rattle.qic_base.specs.Alone.{around}
 use Rattle.cartridge_spec.specs.Table.{Entry}
 use Rattle.cartridge_spec.specs.Volumes.{carrying_segments}
 use Rattle.command_spec.specs.Scrub.{Looked, looked_volumes}
+use Rattle.command_laws.proofs.Passing.{passed}
 use Rattle.command_laws.specs.ScrubTerms.{looked_segments}
 use Rattle.host_driver.proofs.Keeping.{keeps_none, keeps_both}
 use Rattle.volume_table.specs.Entry.{entry_of}
-use Rattle.segment_mending.specs.declared.fault.ScrubFault.{ScrubFault}
+use Rattle.segment_io.specs.declared.fault.StoreFault.{StoreFault}
 use Rattle.segment_mending.specs.Looking.{HasLooked, Looks, HasFew}
 use Rattle.segment_mending.specs.Mending.{reported}
 use Rattle.segment_mending.proofs.Joining.{looked_none, looked_both, looks_then, looks_longer, few_after}
 use Rattle.segment_mending.proofs.Looked.{volumes_more, volumes_part, LiesOn, lies_on}
-use Rattle.command_laws.proofs.Passing.{passed}
-use Rattle.command_spec.specs.declared.depth.Depth.{Depth}
 use Rattle.segment_mending.proofs.volumes.look_at_volumes.Goals as goal
 
 pub loop-index-init : goal.loop-index-init
 loop-index-init g c = record {
-  looked = looked_none c.args.progress.now.depth g.met.K.Sink.took_nothing (around c.args.unit.now.tape c.args.sink.now)
-      (reported c.args.progress.now.report);
+  looked = looked_none g.met.K.Sink.took_nothing (around c.args.unit.now.tape c.args.sink.now) c.args.progress.now;
   few = c.requires.few.segments;
-  depth = refl;
   keeps = keeps_none c.requires.ready;
 }
 
@@ -57,6 +54,8 @@ look_at_volume-requires-clause-few g c =
 -- a fault in one of the volumes
 pub returns-in_err-look_at_volume-clause-looks : goal.returns-in_err-look_at_volume-clause-looks
 returns-in_err-look_at_volume-clause-looks g c =
+    let t = g.T.Tape.means in
+    let k = g.K.Sink.means in
     let words : List ℕ = c.args.map.now in
     let entries : List Entry = c.args.table.now in
     let i : ℕ = c.loop-index.index in
@@ -64,30 +63,24 @@ returns-in_err-look_at_volume-clause-looks g c =
     let a = around c.args.unit.now.tape c.args.sink.now in
     let b = around c.loop-index.unit.tape c.loop-index.sink in
     let d = around c.look_at_volume.new.unit.tape c.look_at_volume.new.sink in
-    let after = reported c.look_at_volume.new.progress.report in
-    let fault : ScrubFault = c.in_err-look_at_volume.field-0.0 in
+    let after = c.look_at_volume.new.progress in
+    let fault : StoreFault = c.in_err-look_at_volume.field-0.0 in
     let is : c.from_residual.result ≡ Err fault = passed c.from_residual.result fault c.from_residual.ensures.1 in
     let xs : List Looked = looked_volumes words (take i entries) in
     let ys : List Looked = looked_segments words (carrying_segments words e) in
     let zs : List Looked = looked_volumes words (drop (i + 1) entries) in
     let whole : (xs ++ ys) ++ zs ≡ looked_volumes words entries =
     ap (λ (ls : List Looked). ls ++ zs) (sym (volumes_more words entries i e c.entry-entry.ensures)) ∙ volumes_part words entries (i + 1) in
-    let front : Looks g.T.Tape.means g.K.Sink.means c.args.progress.now.depth (xs ++ ys) a d (reported c.args.progress.now.report) after
-    (Err fault) =
-    looks_then g.T.Tape.means g.K.Sink.means c.args.progress.now.depth g.met.K.Sink.took_both xs ys a b d
-    (reported c.args.progress.now.report) (reported c.loop-index.progress.report) after (Err fault)
-    c.loop-index.invariant.looked (subst (λ (form : Depth). Looks g.T.Tape.means g.K.Sink.means form ys b d
-    (reported c.loop-index.progress.report) after (Err fault))
-    c.loop-index.invariant.depth c.in_err-look_at_volume.ensures.looks) in
-    let all : Looks g.T.Tape.means g.K.Sink.means c.args.progress.now.depth ((xs ++ ys) ++ zs) a d
-    (reported c.args.progress.now.report) after (Err fault) =
-    looks_longer g.T.Tape.means g.K.Sink.means c.args.progress.now.depth (xs ++ ys) zs a d
-    (reported c.args.progress.now.report) after after fault front in
-    rw is (subst (λ (ls : List Looked). Looks g.T.Tape.means g.K.Sink.means c.args.progress.now.depth ls a d
-    (reported c.args.progress.now.report) after (Err fault)) whole all)
+    let front : Looks t k (xs ++ ys) a d c.args.progress.now after (Err fault) =
+    looks_then t k g.met.K.Sink.took_both xs ys a b d c.args.progress.now c.loop-index.progress after (Err fault)
+    c.loop-index.invariant.looked c.in_err-look_at_volume.ensures.looks in
+    rw is (subst (λ (ls : List Looked). Looks t k ls a d c.args.progress.now after (Err fault)) whole
+    (looks_longer t k (xs ++ ys) zs a d c.args.progress.now after after fault front))
 
 pub loop-index-preserved : goal.loop-index-preserved
 loop-index-preserved g c =
+    let t = g.T.Tape.means in
+    let k = g.K.Sink.means in
     let words : List ℕ = c.args.map.now in
     let entries : List Entry = c.args.table.now in
     let i : ℕ = c.loop-index.index in
@@ -95,19 +88,15 @@ loop-index-preserved g c =
     let a = around c.args.unit.now.tape c.args.sink.now in
     let b = around c.loop-index.unit.tape c.loop-index.sink in
     let d = around c.look_at_volume.new.unit.tape c.look_at_volume.new.sink in
-    let after = reported c.look_at_volume.new.progress.report in
+    let after = c.look_at_volume.new.progress in
     let xs : List Looked = looked_volumes words (take i entries) in
     let ys : List Looked = looked_segments words (carrying_segments words e) in
-    let all : HasLooked g.T.Tape.means g.K.Sink.means c.args.progress.now.depth (xs ++ ys) a d (reported c.args.progress.now.report) after =
-    looked_both c.args.progress.now.depth g.met.K.Sink.took_both xs ys a b d (reported c.args.progress.now.report)
-    (reported c.loop-index.progress.report) after c.loop-index.invariant.looked
-    (subst (λ (form : Depth). HasLooked g.T.Tape.means g.K.Sink.means form ys b d (reported c.loop-index.progress.report) after)
-    c.loop-index.invariant.depth c.in_ok-look_at_volume.ensures.looks) in
+    let more = c.in_ok-look_at_volume.ensures.looks in
     record {
-      looked = subst (λ (ls : List Looked). HasLooked g.T.Tape.means g.K.Sink.means c.args.progress.now.depth ls a d
-          (reported c.args.progress.now.report) after)
-          (sym (volumes_more words entries i e c.entry-entry.ensures)) all;
-      few = (let most = c.loop-index.invariant.few in let more = c.in_ok-look_at_volume.ensures.few in omega arith);
-      depth = c.in_ok-look_at_volume.ensures.depth ∙ c.loop-index.invariant.depth;
+      looked = subst (λ (ls : List Looked). HasLooked t k ls a d c.args.progress.now after)
+          (sym (volumes_more words entries i e c.entry-entry.ensures))
+          (looked_both g.met.K.Sink.took_both xs ys a b d c.args.progress.now c.loop-index.progress after
+          c.loop-index.invariant.looked more);
+      few = (let most = c.loop-index.invariant.few in let next = c.in_ok-look_at_volume.ensures.few in omega arith);
       keeps = keeps_both c.loop-index.invariant.keeps c.in_ok-look_at_volume.ensures.keeps;
     }

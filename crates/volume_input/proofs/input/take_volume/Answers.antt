@@ -1,4 +1,5 @@
-use Rattle.std.proofs.Common.{◌≡◌, ◌⊎◌, inl, inr, ℕ, ◌+◌, ◌-◌, ◌<◌, ◌≤◌, length, sym, ap, ◌∙◌, subst, arith}
+use Rattle.std.proofs.Common.{◌≡◌, ◌⊎◌, inl, inr, ℕ, ◌+◌, ◌-◌, ◌<◌, ◌≤◌, length, Err, sym, ap, ◌∙◌, subst, arith}
+use Rattle.std.proofs.lemmas.Result.{err_from_is_err_and}
 use Rattle.qic_base.specs.Alone.{reading}
 use Rattle.cartridge_laws.specs.Shape.{Carries}
 use Rattle.cartridge_spec.specs.Shape.{mask_at, capacity}
@@ -44,10 +45,10 @@ returns-then-read-capacity-clause-ends g c =
     let new = reading c.write_next.new.unit.tape c.write_next.new.source in
     let far = here_next words c.args.first segment c.args.wanted.most start now c.loop-segment.written c.loop-segment.invariant.far
     (omega arith) carry in
-    let sum : c.with-written.result.bytes ≡ c.loop-segment.written.bytes + c.in-Ok-Some.read =
+    let sum : c.with-written.result.bytes ≡ c.loop-segment.written.bytes + c.in-Some.read =
     ap (λ (w : Written). w.bytes) c.with-written.ensures in
-    let ends : (c.in-Ok-Some.read < capacity (mask_at words segment))
-    ⊎ (c.loop-segment.written.bytes + c.in-Ok-Some.read ≡ c.args.wanted.most) =
+    let ends : (c.in-Some.read < capacity (mask_at words segment))
+    ⊎ (c.loop-segment.written.bytes + c.in-Some.read ≡ c.args.wanted.most) =
     elim c.then-read-capacity.branch [
       | then-read-capacity-via-then-read-capacity w ↦ inl (omega arith)
       | then-read-capacity-via-else-read-capacity+then-written-wanted w ↦ inr (omega arith)
@@ -56,12 +57,12 @@ returns-then-read-capacity-clause-ends g c =
     (carrying words c.args.first (length words - 1)) c.args.wanted.most (is_exact c.args.wanted.length) start new w)
     (sym c.with-written.ensures)
     (last words (carrying words c.args.first (length words - 1)) segment c.args.wanted.most (is_exact c.args.wanted.length) start now new
-    (carrying words (segment + 1) (length words - 1)) c.loop-segment.written carry far c.in-Ok-Some.read
-    (rw c.in-Ok-Some.field-0-is at c.in-Ok-Some.ensures.ends) ends)
+    (carrying words (segment + 1) (length words - 1)) c.loop-segment.written carry far c.in-Some.read
+    (rw c.in-Some.is at c.in_ok-next.ensures.ends) ends)
 
 -- none came behind the others
-pub returns-in-Ok-None-clause-ends : goal.returns-in-Ok-None-clause-ends
-returns-in-Ok-None-clause-ends g c =
+pub returns-in_default-clause-ends : goal.returns-in_default-clause-ends
+returns-in_default-clause-ends g c =
     let words = c.args.map.now in
     let segment : ℕ = c.loop-segment.segment in
     let carry : Carries (mask_at words segment) = capacity_carries words segment (omega arith) in
@@ -73,11 +74,12 @@ returns-in-Ok-None-clause-ends g c =
     none_came words (carrying words c.args.first (length words - 1)) segment c.args.wanted.most
     (is_exact c.args.wanted.length) start now new
     (carrying words (segment + 1) (length words - 1)) c.loop-segment.written carry far
-    (rw c.in-Ok-None.field-0-is at c.in-Ok-None.ensures.ends)
+    (rw c.in_default.is at c.in_ok-next.ensures.ends)
 
 -- a fault
-pub returns-in-Err-clause-ends : goal.returns-in-Err-clause-ends
-returns-in-Err-clause-ends g c =
+pub returns-in_err-next-clause-ends : goal.returns-in_err-next-clause-ends
+returns-in_err-next-clause-ends g c =
+    let p = err_from_is_err_and c.from_residual.result c.from_residual.ensures.1 in
     let words = c.args.map.now in
     let segment : ℕ = c.loop-segment.segment in
     let carry : Carries (mask_at words segment) = capacity_carries words segment (omega arith) in
@@ -86,9 +88,10 @@ returns-in-Err-clause-ends g c =
     let new = reading c.write_next.new.unit.tape c.write_next.new.source in
     let far = here_next words c.args.first segment c.args.wanted.most start now c.loop-segment.written c.loop-segment.invariant.far
     (omega arith) carry in
-    failed words (carrying words c.args.first (length words - 1)) segment c.args.wanted.most (is_exact c.args.wanted.length) start now new
+    rw (p.1 ∙ ap Err p.2) (failed words (carrying words c.args.first (length words - 1)) segment c.args.wanted.most
+    (is_exact c.args.wanted.length) start now new
     (carrying words (segment + 1) (length words - 1)) c.loop-segment.written carry far
-    c.in-Err.fault c.in-Err.ensures.ends
+    c.in_err-next.field-0.0 c.in_err-next.ensures.ends)
 
 -- it was filled, and bytes are still to come
 pub loop-segment-preserved : goal.loop-segment-preserved
@@ -101,15 +104,15 @@ loop-segment-preserved g c =
     let new = reading c.write_next.new.unit.tape c.write_next.new.source in
     let far = here_next words c.args.first segment c.args.wanted.most start now c.loop-segment.written c.loop-segment.invariant.far
     (omega arith) carry in
-    let sum : c.with-written.result.bytes ≡ c.loop-segment.written.bytes + c.in-Ok-Some.read =
+    let sum : c.with-written.result.bytes ≡ c.loop-segment.written.bytes + c.in-Some.read =
     ap (λ (w : Written). w.bytes) c.with-written.ensures in
     let before : c.loop-segment.written.bytes ≤ c.args.wanted.most =
     written_within words c.args.first segment c.args.wanted.most start now c.loop-segment.written c.loop-segment.invariant.far in
     let come : NextWritten g.T.Tape.means g.S.Source.means words segment c.loop-segment.written.bytes c.args.wanted.most
-    (is_exact c.args.wanted.length) now new c.in-Ok-Some.read =
-    rw c.in-Ok-Some.field-0-is at c.in-Ok-Some.ensures.ends in
+    (is_exact c.args.wanted.length) now new c.in-Some.read =
+    rw c.in-Some.is at c.in_ok-next.ensures.ends in
     let few : length come.bytes ≤ c.args.wanted.most - c.loop-segment.written.bytes = come.came.took.within in
-    let count : c.in-Ok-Some.read ≡ length come.bytes = come.count in
+    let count : c.in-Some.read ≡ length come.bytes = come.count in
     record {
       far = subst (λ (w : Written). SoFar g.T.Tape.means g.S.Source.means words
           (carrying words c.args.first (length words - 1)) c.args.wanted.most start new
@@ -117,11 +120,11 @@ loop-segment-preserved g c =
           (sym c.with-written.ensures)
           (next words (carrying words c.args.first (length words - 1)) segment c.args.wanted.most
           (is_exact c.args.wanted.length) start now new
-          (carrying words (segment + 1) (length words - 1)) c.loop-segment.written carry far c.in-Ok-Some.read come (omega arith)
+          (carrying words (segment + 1) (length words - 1)) c.loop-segment.written carry far c.in-Some.read come (omega arith)
           (omega arith));
       kept = g.met.S.Source.keeps_on c.args.source.now c.loop-segment.source c.write_next.new.source c.loop-segment.invariant.kept
-          c.in-Ok-Some.ensures.kept;
-      keeps = keeps_both c.loop-segment.invariant.keeps c.in-Ok-Some.ensures.keeps;
+          c.in_ok-next.ensures.kept;
+      keeps = keeps_both c.loop-segment.invariant.keeps c.in_ok-next.ensures.keeps;
     }
 
 -- the segments don't end before the volume

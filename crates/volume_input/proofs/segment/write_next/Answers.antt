@@ -1,4 +1,5 @@
-use Rattle.std.proofs.Common.{rules, refl, ap, ◌≡◌, ◌≢◌, ◌⊎◌, inl, inr, ◌-◌, ◌≤◌, min, true, All, subst, arith}
+use Rattle.std.proofs.Common.{rules, refl, ap, ◌∙◌, Err, ◌≡◌, ◌≢◌, ◌⊎◌, inl, inr, ◌-◌, ◌≤◌, min, true, All, subst, arith}
+use Rattle.std.proofs.lemmas.Result.{err_from_is_err_and}
 use Rattle.qic_base.specs.Cartridge.{IsSector}
 use Rattle.volume_input.specs.Length.{is_exact}
 use Rattle.volume_input.specs.declared.length.Length.{Length}
@@ -31,63 +32,71 @@ fill_work-requires g c =
       data_most c.args.map.now c.args.segment,
     )
 
-pub returns-in-Err-clause-ends : goal.returns-in-Err-clause-ends
-returns-in-Err-clause-ends g c =
-    source_fault g.T.Tape.means g.S.Source.means c.args.unit.now.tape c.args.unit.now.tape c.args.source.now c.fill_work.new.source
-    c.in-Err.ensures.cause.later
+pub returns-in_err-read-clause-ends : goal.returns-in_err-read-clause-ends
+returns-in_err-read-clause-ends g c =
+    let p = err_from_is_err_and c.from_residual.result c.from_residual.ensures.1 in
+    rw (p.1 ∙ ap Err p.2) (source_fault g.T.Tape.means g.S.Source.means c.args.unit.now.tape c.args.unit.now.tape c.args.source.now
+    c.fill_work.new.source
+    c.in_err-read.ensures.cause.later
     c.args.map.now c.args.segment c.args.before c.args.wanted.most c.capacity-capacity.result
     (is_exact c.args.wanted.length) c.requires.segment.carries c.capacity-capacity.ensures
-    c.in-Err.ensures.cause.failed c.in-Err.ensures.filled
+    c.in_err-read.ensures.cause.failed c.in_err-read.ensures.filled)
 
-pub returns-in-Err-Tape-clause-ends : goal.returns-in-Err-Tape-clause-ends
-returns-in-Err-Tape-clause-ends g c =
+pub returns-in_err-write_segment-clause-ends : goal.returns-in_err-write_segment-clause-ends
+returns-in_err-write_segment-clause-ends g c =
+    let p = err_from_is_err_and c.from_residual-in_err-write_segment.result c.from_residual-in_err-write_segment.ensures.1 in
     let enough : (is_exact c.args.wanted.length) ≡ true →
-    min c.capacity-capacity.result (c.args.wanted.most - c.args.before) ≤ c.in-Ok.read =
+    min c.capacity-capacity.result (c.args.wanted.most - c.args.before) ≤ c.in_ok-read.read =
     elim c.else-eq.branch [
       | else-eq-via-then-eq+else-read-min w ↦ λ asked. omega arith
       | else-eq-via-else-eq w ↦ λ asked. absurd
           (let other : c.args.wanted.length ≢ Exact = search rules in other (only_exact c.args.wanted.length asked))
     ] in
-    let some : (c.args.before ≡ 0) ⊎ (1 ≤ c.in-Ok.read) =
+    let some : (c.args.before ≡ 0) ⊎ (1 ≤ c.in_ok-read.read) =
     elim c.else-read-eq0.branch [
       | else-read-eq0-via-then-read-eq0+else-before-gt0 w ↦ inl
           (omega arith)
       | else-read-eq0-via-else-read-eq0 w ↦ inr (omega arith)
     ] in
-    next_broken g.T.Tape.means g.S.Source.means c.args.unit.now.tape c.write_segment.new.unit.tape c.args.source.now c.fill_work.new.source
-    c.fill_work.ensures.cause.later
+    rw (p.1 ∙ ap Err p.2) (next_broken g.T.Tape.means g.S.Source.means c.args.unit.now.tape c.write_segment.new.unit.tape
+    c.args.source.now c.fill_work.new.source c.fill_work.ensures.cause.later
     c.args.map.now c.args.segment c.args.before c.args.wanted.most c.capacity-capacity.result
     (is_exact c.args.wanted.length) c.requires.segment.carries c.capacity-capacity.ensures
-    c.in-Ok.ensures.cause.stood c.in-Ok.read c.fill_work.new.work (subst (All IsSector) c.sectors.ensures.value c.are_sectors.ensures)
-    c.in-Ok.ensures.filled enough c.usable.result c.usable.ensures some c.in-Err-Tape.ensures.did
+    c.in_ok-read.ensures.cause.stood c.in_ok-read.read c.fill_work.new.work
+    (subst (All IsSector) c.sectors.ensures.value c.are_sectors.ensures)
+    c.in_ok-read.ensures.filled enough c.usable.result c.usable.ensures some c.in_err-write_segment.ensures.did)
 
-pub returns-in-Ok-write_segment-clause-ends : goal.returns-in-Ok-write_segment-clause-ends
-returns-in-Ok-write_segment-clause-ends g c =
+pub returns-clause-ends : goal.returns-clause-ends
+returns-clause-ends g c =
     let enough : (is_exact c.args.wanted.length) ≡ true →
-    min c.capacity-capacity.result (c.args.wanted.most - c.args.before) ≤ c.in-Ok.read =
+    min c.capacity-capacity.result (c.args.wanted.most - c.args.before) ≤ c.in_ok-read.read =
     elim c.else-eq.branch [
       | else-eq-via-then-eq+else-read-min w ↦ λ asked. omega arith
       | else-eq-via-else-eq w ↦ λ asked. absurd
           (let other : c.args.wanted.length ≢ Exact = search rules in other (only_exact c.args.wanted.length asked))
     ] in
-    let some : (c.args.before ≡ 0) ⊎ (1 ≤ c.in-Ok.read) =
+    let some : (c.args.before ≡ 0) ⊎ (1 ≤ c.in_ok-read.read) =
     elim c.else-read-eq0.branch [
       | else-read-eq0-via-then-read-eq0+else-before-gt0 w ↦ inl
           (omega arith)
       | else-read-eq0-via-else-read-eq0 w ↦ inr (omega arith)
     ] in
-    next_written g.T.Tape.means g.S.Source.means c.args.unit.now.tape c.write_segment.new.unit.tape c.args.source.now c.fill_work.new.source
-    c.fill_work.ensures.cause.later
+    next_written g.T.Tape.means g.S.Source.means c.args.unit.now.tape c.write_segment.new.unit.tape
+    c.args.source.now c.fill_work.new.source c.fill_work.ensures.cause.later
     c.args.map.now c.args.segment c.args.before c.args.wanted.most c.capacity-capacity.result
     (is_exact c.args.wanted.length) c.requires.segment.carries c.capacity-capacity.ensures
-    c.in-Ok.ensures.cause.stood c.in-Ok.read c.fill_work.new.work (subst (All IsSector) c.sectors.ensures.value c.are_sectors.ensures)
-    c.in-Ok.ensures.filled enough c.usable.result c.usable.ensures some c.in-Ok-write_segment.ensures.did
+    c.in_ok-read.ensures.cause.stood c.in_ok-read.read c.fill_work.new.work
+    (subst (All IsSector) c.sectors.ensures.value c.are_sectors.ensures)
+    c.in_ok-read.ensures.filled enough c.usable.result c.usable.ensures some c.in_ok-write_segment.ensures.did
 
 pub returns-then-read-min-clause-ends : goal.returns-then-read-min-clause-ends
-returns-then-read-min-clause-ends g c =
-    came_short g.T.Tape.means g.S.Source.means c.args.unit.now.tape c.args.unit.now.tape c.args.source.now c.fill_work.new.source
-    c.fill_work.ensures.cause.later
-    c.args.map.now c.args.segment c.args.before c.args.wanted.most c.capacity-capacity.result
-    (is_exact c.args.wanted.length) c.requires.segment.carries c.capacity-capacity.ensures
-    c.in-Ok.ensures.cause.stood c.in-Ok.read c.fill_work.new.work (subst (All IsSector) c.sectors.ensures.value c.are_sectors.ensures)
-    c.in-Ok.ensures.filled (let exact : c.args.wanted.length ≡ Exact = search rules in ap is_exact exact) (omega arith)
+returns-then-read-min-clause-ends g c = (
+  refl,
+  came_short g.T.Tape.means g.S.Source.means c.args.unit.now.tape c.args.unit.now.tape c.args.source.now c.fill_work.new.source
+      c.fill_work.ensures.cause.later
+      c.args.map.now c.args.segment c.args.before c.args.wanted.most c.capacity-capacity.result
+      (is_exact c.args.wanted.length) c.requires.segment.carries c.capacity-capacity.ensures
+      c.in_ok-read.ensures.cause.stood c.in_ok-read.read c.fill_work.new.work
+      (subst (All IsSector) c.sectors.ensures.value c.are_sectors.ensures)
+      c.in_ok-read.ensures.filled (let exact : c.args.wanted.length ≡ Exact = search rules in ap is_exact exact) (omega arith),
+)

@@ -5,7 +5,7 @@ use Rattle.qic_base.specs.Alone.{around}
 use Rattle.cartridge_spec.specs.Shape.{mask_at, capacity}
 use Rattle.host_driver.proofs.Keeping.{keeps_both}
 use Rattle.command_spec.specs.Restore.{Piece}
-use Rattle.volume_output.specs.declared.fault.OutputFault.{OutputFault}
+use Rattle.segment_io.specs.declared.fault.StoreFault.{StoreFault}
 use Rattle.volume_output.specs.Form.{is_lined}
 use Rattle.volume_output.specs.Output.{OutputEnds}
 use Rattle.volume_output.specs.Piece.{piece_of}
@@ -28,7 +28,7 @@ returns-in_err-write_piece-clause-ends g c =
     c.capacity.ensures in
     let some : 0 < count = c.if-count-gt0.true in
     let rest : List Piece = pieces_between words (segment + 1) c.args.volume.end (c.loop-segment.left - count) in
-    let failed : (why : OutputFault) → why ≡ c.in_err-write_piece.field-0.0 →
+    let failed : (why : StoreFault) → why ≡ c.in_err-write_piece.field-0.0 →
     OutputEnds g.T.Tape.means g.K.Sink.means words (pieces_between words c.args.volume.start c.args.volume.end c.args.volume.bytes)
     (is_lined c.args.form)
     (around c.args.unit.now.tape c.args.sink.now) (around c.write_piece.new.unit.tape c.write_piece.new.sink) (Err why) =

@@ -4,8 +4,8 @@ use Rattle.volume_output.specs.Piece.{piece_of}
 use Rattle.volume_output.proofs.Parts.{piece_read}
 use Rattle.volume_output.proofs.part.read_part.Goals as goal
 
-pub returns-in-Ok-clause-ends : goal.returns-in-Ok-clause-ends
-returns-in-Ok-clause-ends g c =
+pub returns-clause-ends : goal.returns-clause-ends
+returns-clause-ends g c =
     let place = c.in-Some.place in
     let usable = c.usable-usable.result in
     let within : place.count ≤ capacity usable = rw c.usable-usable.ensures c.in-Some.ensures.within in
@@ -14,7 +14,7 @@ returns-in-Ok-clause-ends g c =
       sym c.in-Some.ensures.is,
       piece_read g.T.Tape.means c.args.map.now place.segment place.count usable c.usable-usable.ensures c.args.unit.now.tape
           c.read_segment.new.unit.tape
-          c.in-Ok.ensures.did c.in-Some.ensures.some within c.read_segment.new.work c.in-Ok.ensures.room c.in-Ok.ensures.block
-          c.capacity.result held
-          (c.in-Ok.ensures.solves (λ same. cc)),
+          c.in_ok-read_segment.ensures.did c.in-Some.ensures.some within c.read_segment.new.work
+          c.in_ok-read_segment.ensures.room c.in_ok-read_segment.ensures.block c.capacity.result held
+          (c.in_ok-read_segment.ensures.solves (λ same. cc)),
     )

@@ -47,7 +47,7 @@ returns-in-Err-Short g c =
         inr (heard_short g.T.Tape.means g.S.Source.means g.K.Sink.means c.args.store.now c.carry_out.new.store c.args.unit.now.tape
             c.carry_out.new.unit.tape c.args.source.now c.read_line.new.source c.carry_out.new.source
             c.args.sink.now c.carry_out.new.sink c.in-Ok-Line.ensures.cause.stood c.in-Ok-Line.asked read.0 read.1
-            c.in-Err-Short.ensures.other read.3 ends),
+            c.in-Err-Short.ensures.other read.3 _ ends.1),
       );
       few = tt;
       fits = λ other. c.in-Err-Short.ensures.fits (λ e. let is = c.in-Err-Short.field-0-is in cc);

@@ -1,12 +1,10 @@
-use Rattle.std.proofs.Common.{◌≡◌, ◌⊎◌, inl, inr, ℕ, ◌-◌, ◌<◌, true, length, Some, subst, sym, ◌∙◌, arith}
+use Rattle.std.proofs.Common.{◌≡◌, ◌⊎◌, inl, inr, ℕ, ◌<◌, true, Some, subst, sym, ◌∙◌, arith}
 use Rattle.qic_base.specs.Alone.{reading}
 use Rattle.cartridge_spec.specs.Appending.{room}
-use Rattle.cartridge_spec.specs.Volumes.{carrying}
-use Rattle.volume_input.specs.Input.{HasWritten, EndedShort}
 use Rattle.host_driver.proofs.Keeping.{keeps_none}
 use Rattle.volume_store.specs.Appending.{InputWent}
 use Rattle.command_spec.specs.Append.{TooLong}
-use Rattle.volume_store.proofs.Taking.{promise_refused, promised_written, promised_ends_short}
+use Rattle.volume_store.proofs.Taking.{moved, promise_refused, promised_asked, promised_ends}
 use Rattle.volume_store.proofs.appending.take_promised.Goals as goal
 use Rattle.volume_store.proofs.appending.take_promised.Goals.{then-have-eq0-via-then-have-eq0}
 use Rattle.volume_store.proofs.appending.take_promised.Goals.{then-have-eq0-via-else-have-eq0+then-count-have}
@@ -33,31 +31,29 @@ returns-then-have-eq0-clause-ends g c =
     (reading c.args.unit.now.tape c.args.source.now) (reading c.args.unit.now.tape c.args.source.now) (TooLong c.args.count n))
     (sym (c.from-then-have-eq0.ensures ∙ c.free_room-have.ensures)) refused)
 
-pub returns-in-Ok-clause-ends : goal.returns-in-Ok-clause-ends
-returns-in-Ok-clause-ends g c =
+pub returns-clause-ends : goal.returns-clause-ends
+returns-clause-ends g c =
     let words = c.args.map.now in
     let entries = c.args.table.now in
     let old = reading c.args.unit.now.tape c.args.source.now in
     let new = reading c.take_volume.new.unit.tape c.take_volume.new.source in
-    promised_written g.T.Tape.means g.S.Source.means words entries old new c.args.count
+    promised_ends g.T.Tape.means g.S.Source.means words entries old new c.args.count
     (let is = c.free_room-have.ensures in let some = c.if-have-eq0.false in omega arith)
-    (let is = c.free_room-have.ensures in let most = c.if-count-have.false in omega arith) c.in-Ok.written
-    (subst (λ (first : ℕ). HasWritten g.T.Tape.means g.S.Source.means words (carrying words first (length words - 1)) c.args.count true old
-    new c.in-Ok.written)
-    c.first_free.ensures c.in-Ok.ensures.ends)
+    (let is = c.free_room-have.ensures in let most = c.if-count-have.false in omega arith) c.take_volume.result
+    (moved g.T.Tape.means g.S.Source.means words entries old new c.first_free.result c.args.count true c.take_volume.result
+    c.first_free.ensures c.take_volume.ensures.ends)
 
-pub returns-in-Err-Short-clause-ends : goal.returns-in-Err-Short-clause-ends
-returns-in-Err-Short-clause-ends g c =
+pub returns-clause-asked : goal.returns-clause-asked
+returns-clause-asked g c =
     let words = c.args.map.now in
     let entries = c.args.table.now in
     let old = reading c.args.unit.now.tape c.args.source.now in
     let new = reading c.take_volume.new.unit.tape c.take_volume.new.source in
-    promised_ends_short g.T.Tape.means g.S.Source.means words entries old new c.args.count
+    promised_asked g.T.Tape.means g.S.Source.means words entries old new c.args.count
     (let is = c.free_room-have.ensures in let some = c.if-have-eq0.false in omega arith)
-    (let is = c.free_room-have.ensures in let most = c.if-count-have.false in omega arith) c.in-Err-Short.read
-    (subst (λ (first : ℕ). EndedShort g.T.Tape.means g.S.Source.means words (carrying words first (length words - 1)) c.args.count true old
-    new c.in-Err-Short.read)
-    c.first_free.ensures (rw c.in-Err-Short.field-0-is at c.in-Err-Short.ensures.ends))
+    (let is = c.free_room-have.ensures in let most = c.if-count-have.false in omega arith) c.take_volume.result
+    (moved g.T.Tape.means g.S.Source.means words entries old new c.first_free.result c.args.count true c.take_volume.result
+    c.first_free.ensures c.take_volume.ensures.ends)
 
 pub returns-then-have-eq0-clause-kept : goal.returns-then-have-eq0-clause-kept
 returns-then-have-eq0-clause-kept g c = g.met.S.Source.keeps_itself c.args.source.now

@@ -9,7 +9,7 @@ invariant_of-self g c =
     let e = c.format_segment-answer.ensures in
     IsSoundUnit-formatted g.T.Tape.means (unit_of c.self.inside.dialogue)
     (unit_of c.format_segment-answer.new.self) c.format_segment-answer.result
-    c.self.invariant.drive (λ none. ap (λ (x : Dialogue g.row.T.Denot). record_of x) (e.unreached none).1) e.moved e.failed
+    c.self.invariant.drive (λ none. ap (λ (x : Dialogue g.row.T.Denot). record_of x) (e.unreached none).1) e.moved e.stayed
     c.reveal.ensures.known
 
 pub returns-clause-sound : goal.returns-clause-sound
@@ -21,8 +21,8 @@ returns-clause-reached g c = rw (← c.self.view_is) c.format_segment-answer.ens
 pub returns-clause-moved : goal.returns-clause-moved
 returns-clause-moved g c = rw (← c.self.view_is) c.format_segment-answer.ensures.moved
 
-pub returns-clause-failed : goal.returns-clause-failed
-returns-clause-failed g c = rw (← c.self.view_is) c.format_segment-answer.ensures.failed
+pub returns-clause-stayed : goal.returns-clause-stayed
+returns-clause-stayed g c = rw (← c.self.view_is) c.format_segment-answer.ensures.stayed
 
 pub returns-clause-size : goal.returns-clause-size
 returns-clause-size g c = rw (← c.self.view_is) c.format_segment-answer.ensures.size

@@ -5,9 +5,9 @@ use Rattle.drive_states.specs.Reach.{segment_of}
 use Rattle.host_driver.proofs.Marks.{format_keeps, broke_agrees}
 use Rattle.host_driver.proofs.host.Host.format_here.Goals as goal
 
-pub returns-in-Err-Tape-clause-keeps : goal.returns-in-Err-Tape-clause-keeps
-returns-in-Err-Tape-clause-keeps g c =
-    let found = rw c.in-Err-Tape.field-0-is at (c.in-Err-Tape.ensures.reached c.requires.formatting) in
+pub returns-in_err-format_segment-clause-keeps : goal.returns-in_err-format_segment-clause-keeps
+returns-in_err-format_segment-clause-keeps g c =
+    let found = c.in_err-format_segment.ensures.reached c.requires.formatting in
     record {
       ready = search rules;
       same = search rules;

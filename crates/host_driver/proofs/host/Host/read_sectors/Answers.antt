@@ -3,9 +3,9 @@ use Rattle.drive_spec.specs.declared.deck.Deck.{Deck}
 use Rattle.host_driver.proofs.Marks.{nothing_keeps, broke_agrees}
 use Rattle.host_driver.proofs.host.Host.read_sectors.Goals as goal
 
-pub returns-in-Err-Tape-clause-keeps : goal.returns-in-Err-Tape-clause-keeps
-returns-in-Err-Tape-clause-keeps g c =
-    let found = rw c.in-Err-Tape.field-0-is at c.in-Err-Tape.ensures.found in
+pub returns-in_err-read-clause-keeps : goal.returns-in_err-read-clause-keeps
+returns-in_err-read-clause-keeps g c =
+    let found = c.in_err-read.ensures.found in
     record {
       ready = search rules;
       same = search rules;

@@ -96,10 +96,10 @@ returns-clause-ready g c =
     record {
       fits = subst (λ (h : Host). Fits g.T.Tape.means h c.read_report-segments_per_track.new.unit) (sym c.learnt.ensures)
           (fits_started {m = g.T.Tape.means} {u = c.read_report-segments_per_track.new.unit} o c.in-Ok.geometry c.contains-protected.result
-          c.contains-2.result
+          c.contains-referenced.result
           last (status.there ∙ c.if-not-contains.false) (c.in-Ok.ensures.value ∙ long)
           (protected_told o bits c.contains-protected.result status.word (c.contains-protected.ensures tt))
-          (referenced_told o bits c.contains-2.result status.word (c.contains-2.ensures tt))
+          (referenced_told o bits c.contains-referenced.result status.word (c.contains-referenced.ensures tt))
           c.read_report-segments_per_track.ensures.sound);
       rest = record { still = ap (λ (r : Record). is_seeking r.deck.motion) last; idle = ap (λ (r : Record). r.under_way) last };
     }

@@ -1,4 +1,5 @@
 use Rattle.std.proofs.Common.{ap, [], ◌∷◌, rules}
+use Rattle.std.proofs.lemmas.Result.{err_from_is_err_and}
 use Rattle.qic_base.specs.Step.{write_sector}
 use Rattle.drive_spec.specs.declared.deck.Deck.{Deck}
 use Rattle.host_driver.proofs.Marks.{write_keeps, broke_agrees}
@@ -6,15 +7,16 @@ use Rattle.host_driver.proofs.host.Host.write_sector.Goals as goal
 
 pub returns-in-Err-NoAddress-clause-did : goal.returns-in-Err-NoAddress-clause-did
 returns-in-Err-NoAddress-clause-did g c =
-    (rw c.in-Err-NoAddress.field-0-is at c.in-Err-NoAddress.ensures.written).1
+    (rw (c.in-Err-NoAddress.is, c.in-Err-NoAddress.field-0-is) at c.in_ok-write_under.ensures.written).1
 
-pub returns-in-Err-Tape-clause-did : goal.returns-in-Err-Tape-clause-did
-returns-in-Err-Tape-clause-did g c =
-    (rw c.in-Err-Tape.field-0-is at c.in-Err-Tape.ensures.written).1
+pub returns-in_err-write_under-clause-did : goal.returns-in_err-write_under-clause-did
+returns-in_err-write_under-clause-did g c =
+    rw (err_from_is_err_and c.from_residual.result c.from_residual.ensures.1).1
+    (c.in_err-write_under.ensures.written).1
 
-pub returns-in-Err-Tape-clause-keeps : goal.returns-in-Err-Tape-clause-keeps
-returns-in-Err-Tape-clause-keeps g c =
-    let found = rw c.in-Err-Tape.field-0-is at c.in-Err-Tape.ensures.written in
+pub returns-in_err-write_under-clause-keeps : goal.returns-in_err-write_under-clause-keeps
+returns-in_err-write_under-clause-keeps g c =
+    let found = c.in_err-write_under.ensures.written in
     record {
       ready = search rules;
       same = search rules;

@@ -5,9 +5,9 @@ use Rattle.drive_spec.specs.declared.deck.Deck.{Deck}
 use Rattle.host_driver.proofs.Marks.{write_keeps, done_agrees, broke_agrees}
 use Rattle.host_driver.proofs.host.Host.write_sectors.Goals as goal
 
-pub returns-in-Ok-clause-keeps : goal.returns-in-Ok-clause-keeps
-returns-in-Ok-clause-keeps g c =
-    let wrote = c.in-Ok.ensures.wrote in
+pub returns-clause-keeps : goal.returns-clause-keeps
+returns-clause-keeps g c =
+    let wrote = rw c.in-Ok.is at c.in_ok-blank.ensures.wrote in
     record {
       ready = search rules;
       same = search rules;
@@ -17,9 +17,9 @@ returns-in-Ok-clause-keeps g c =
       size = search rules;
     }
 
-pub returns-in-Err-Tape-clause-keeps : goal.returns-in-Err-Tape-clause-keeps
-returns-in-Err-Tape-clause-keeps g c =
-    let wrote = rw c.in-Err-Tape.field-0-is at c.in-Err-Tape.ensures.wrote in
+pub returns-in_err-blank-clause-keeps : goal.returns-in_err-blank-clause-keeps
+returns-in_err-blank-clause-keeps g c =
+    let wrote = c.in_err-blank.ensures.wrote in
     record {
       ready = search rules;
       same = search rules;

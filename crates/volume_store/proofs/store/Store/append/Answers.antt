@@ -1,12 +1,12 @@
 use Rattle.std.proofs.Common.{◌≡◌, Err, Ok, refl, take, sym, ap, ◌∙◌}
 use Rattle.header_segments.specs.Header.{header_of}
 use Rattle.volume_store.specs.Mounting.{StoreView}
-use Rattle.cartridge_front.specs.declared.fault.StoreFault.{StoreFault}
-use Rattle.cartridge_front.specs.declared.fault.StoreFault.TheVariants.{Tape}
+use Rattle.segment_io.specs.declared.fault.StoreFault.{StoreFault}
+use Rattle.segment_io.specs.declared.fault.StoreFault.TheVariants.{Tape}
 use Rattle.volume_store.proofs.BrokenUnread.{unread_first, unread_known}
 use Rattle.volume_store.proofs.Ending.{answered}
 use Rattle.volume_store.proofs.Ordering.{added_order, entry_order, input_order, ordered, settling_order}
-use Rattle.cartridge_front.proofs.Passing.{passed}
+use Rattle.command_laws.proofs.Passing.{passed}
 use Rattle.volume_store.proofs.Stages.{writable, settling_ends, settling_fits, input_ends, input_fits, either_order, entry_ends, entry_fits}
 use Rattle.volume_store.proofs.Stages.{added_ends, added_fits}
 use Rattle.volume_store.proofs.store.Store.append.Goals as goal

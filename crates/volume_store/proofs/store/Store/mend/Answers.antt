@@ -1,14 +1,15 @@
-use Rattle.std.proofs.Common.{◌≡◌, ◌-◌, List, length, take, Ok, Err, false, sym, ap, subst}
+use Rattle.std.proofs.Common.{◌≡◌, ◌-◌, List, length, take, Bool, true, false, sym, ap, ◌∙◌, subst}
 use Rattle.cartridge_laws.specs.TableCells.{HasList}
 use Rattle.qic_base.specs.Alone.{around}
 use Rattle.cartridge_spec.specs.Table.{Entry}
+use Rattle.drive_spec.specs.Terms.{is_protected}
 use Rattle.header_segments.specs.Header.{header_of}
+use Rattle.host_driver.specs.Fits.{deck_of}
 use Rattle.qic_base.specs.TapeCalls.{Tells}
+use Rattle.segment_mending.specs.Mending.{ScrubEnds}
 use Rattle.volume_store.specs.Mounting.{StoreView}
 use Rattle.volume_store.proofs.Restored.{still_fits}
-use Rattle.volume_store.proofs.Scrubs.{told_there, scrub_lists}
-use Rattle.volume_store.proofs.store.Store.mend.Goals.{in-Ok, in-Err-Sink, in-Err-Tape}
-use Rattle.segment_mending.specs.declared.fault.ScrubFault.TheVariants as scrub
+use Rattle.volume_store.proofs.Scrubs.{told_there, scrub_ends, scrub_lists, unprotected}
 use Rattle.volume_store.proofs.store.Store.mend.Goals as goal
 
 pub returns-clause-fits : goal.returns-clause-fits
@@ -27,15 +28,8 @@ returns-clause-fits g c = λ other.
     subst (λ (es : List Entry). Tells m c.args.unit.now.tape (λ c'. c'.info.protected ≡ false → HasList c' es))
     (sym same) c.requires.fits.volumes in
     let behind : Tells m c.scrub_segments.new.unit.tape (λ c'. c'.info.protected ≡ false → HasList c' table) =
-    elim c.match-scrub_segments.branch [
-      | in-Ok w ↦
-          scrub_lists m k c.args.depth map table (length map - 1) c.self.invariant.1 a b (Ok w.in-Ok.report) w.in-Ok.ensures.ends
-          (λ is. cc) right there before
-      | in-Err-Sink w ↦
-          scrub_lists m k c.args.depth map table (length map - 1) c.self.invariant.1 a b (Err scrub.Sink)
-          (rw w.in-Err-Sink.field-0-is at w.in-Err-Sink.ensures.ends) (λ is. cc) right there before
-      | in-Err-Tape w ↦ absurd (other w.result-is)
-    ] in
+    scrub_lists m k c.args.depth map table (length map - 1) c.self.invariant.1 a b c.scrub_segments.result c.scrub_segments.ensures.ends
+    other right there before in
     let after : StoreView = record {
       host = c.scrub_segments.new.host;
       header = header_of c.self.inside.header;
@@ -49,3 +43,21 @@ returns-clause-fits g c = λ other.
       entries = same;
     }) c.scrub_segments.ensures.keeps
     (subst (λ (es : List Entry). Tells m c.scrub_segments.new.unit.tape (λ c'. c'.info.protected ≡ false → HasList c' es)) same behind)
+
+pub returns-clause-ends : goal.returns-clause-ends
+returns-clause-ends g c =
+    let m = g.T.Tape.means in
+    let k = g.K.Sink.means in
+    let a = around c.args.unit.now.tape c.args.sink.now in
+    let b = around c.scrub_segments.new.unit.tape c.scrub_segments.new.sink in
+    scrub_ends m k c.args.depth c.args.self.now a b c.scrub_segments.result
+    (subst (λ (v : StoreView). ScrubEnds m k c.args.depth v.words v.entries a b c.scrub_segments.result) c.self.view_is
+    c.scrub_segments.ensures.ends)
+
+pub returns-clause-protected : goal.returns-clause-protected
+returns-clause-protected g c =
+    let free : is_protected c.args.unit.now.drive.deck ≡ false = ap is_protected c.requires.fits.host.deck
+    ∙ ap (λ (v : StoreView). is_protected (deck_of v.host)) (sym c.self.view_is) ∙ sym c.protected.ensures ∙ c.if-protected.false in (
+      λ is. absurd (unprotected g.T.Tape.means g.K.Sink.means _ _ _ _ _ c.scrub_segments.result c.scrub_segments.ensures.ends is),
+      λ locked. (let never : ◌≡◌ {A = Bool} true false = sym locked ∙ free in absurd (cc)),
+    )

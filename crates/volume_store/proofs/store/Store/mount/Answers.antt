@@ -6,11 +6,11 @@ use Rattle.drive_spec.specs.Terms.{is_protected}
 use Rattle.header_segments.specs.Header.{header_of}
 use Rattle.host_driver.specs.declared.host.Host.{Host}
 use Rattle.host_driver.specs.Fits.{segments_of}
-use Rattle.cartridge_front.specs.declared.fault.StoreFault.{StoreFault}
-use Rattle.cartridge_front.specs.declared.fault.StoreFault.TheVariants.{Tape}
+use Rattle.segment_io.specs.declared.fault.StoreFault.{StoreFault}
+use Rattle.segment_io.specs.declared.fault.StoreFault.TheVariants.{Tape}
 use Rattle.volume_store.specs.Mounting.{StoreView, Settles, IsSettling, SettlingBreaks, MountDoes}
 use Rattle.cartridge_front.specs.Settling.{mending_steps}
-use Rattle.cartridge_front.proofs.Passing.{passed}
+use Rattle.command_laws.proofs.Passing.{passed}
 use Rattle.volume_store.proofs.Storing.{sound_volumes, told_settles, told_lists, told_there, none_mended, one_length, still_primary}
 use Rattle.volume_store.proofs.Storing.{still_referenced}
 use Rattle.volume_store.proofs.store.Store.mount.Goals as goal
@@ -70,10 +70,8 @@ returns-clause-fits g c =
 pub returns-in_err-settle-clause-did : goal.returns-in_err-settle-clause-did
 returns-in_err-settle-clause-did g c =
     let m = g.T.Tape.means in
-    let fault : StoreFault = c.in_err-settle.field-0.0 in
-    let is : c.from_residual-in_err-settle.result ≡ Err fault =
-    passed c.from_residual-in_err-settle.result fault c.from_residual-in_err-settle.ensures.1 in
-    let tape : fault ≡ Tape = c.in_err-settle.ensures.fault in
+    let is : c.from_residual-in_err-settle.result ≡ Err Tape =
+    passed c.from_residual-in_err-settle.result Tape c.from_residual-in_err-settle.ensures.1 in
     let steps : List Step = mending_steps (is_protected c.learn.new.unit.drive.deck) c.in_ok-learnt.learnt.unread c.learn.new.work in
     let broken : SettlingBreaks m c.args.unit.now.tape c.settle.new.unit.tape = record {
       steps = steps;
@@ -93,4 +91,4 @@ returns-in_err-settle-clause-did g c =
           (c.in_ok-learnt.ensures.found (λ same. cc)));
     } in
     subst (λ (answer : Result StoreView StoreFault). MountDoes m c.args.unit.now.tape c.settle.new.unit.tape answer)
-    (sym (is ∙ ap Err tape)) broken
+    (sym is) broken

@@ -1,10 +1,12 @@
 use Rattle.std.proofs.Common.{◌≡◌, ◌-◌, ◌<◌, inl, inr, false, take, Some, None, Ok, Err, refl, ap, ◌∙◌, arith, slice_get}
 use Rattle.cartridge_spec.specs.Table.{Entry}
 use Rattle.cartridge_spec.specs.Volumes.{carrying}
+use Rattle.command_laws.proofs.Passing.{passed}
 use Rattle.cartridge_laws.specs.TableCells.{HasList}
 use Rattle.command_spec.specs.Restore.{pieces_of}
 use Rattle.header_segments.specs.Header.{header_of}
 use Rattle.qic_base.specs.TapeCalls.{Tells}
+use Rattle.segment_io.specs.declared.fault.StoreFault.{StoreFault}
 use Rattle.volume_store.specs.Mounting.{StoreView}
 use Rattle.volume_table.specs.Entry.{entry_of}
 use Rattle.volume_store.proofs.Parts.{piece_of_volume, part_failed, part_tells}
@@ -34,8 +36,8 @@ read_part-requires-clause-on_tape g c =
     let ends = ends_within c.self.inside.table 2 _ (c.args.number - 1) e c.self.invariant.1 at in
     omega (arith, ends.0, ends.1)
 
-pub returns-in-Ok-None-clause-ends : goal.returns-in-Ok-None-clause-ends
-returns-in-Ok-None-clause-ends g c =
+pub returns-in_default-clause-ends : goal.returns-in_default-clause-ends
+returns-in_default-clause-ends g c =
     let store : StoreView = c.args.self.now in
     let e : Entry = entry_of c.entry-entry.result.now in
     let some : 0 < c.args.number = omega (arith, c.if-number-eq0.false) in
@@ -45,11 +47,11 @@ returns-in-Ok-None-clause-ends g c =
       told.0,
       piece_of_volume g.T.Tape.means c.args.unit.now.tape c.read_part.new.unit.tape c.args.part c.read_part.new.work store c.self.inside.map
           e
-          c.length-length.result (Ok None) words told.1 (rw c.in-Ok-None.field-0-is at c.in-Ok-None.ensures.ends),
+          c.length-length.result (Ok None) words told.1 (rw c.in_default.is at c.in_ok-found.ensures.ends),
     )
 
-pub returns-in-Ok-Some-clause-ends : goal.returns-in-Ok-Some-clause-ends
-returns-in-Ok-Some-clause-ends g c =
+pub returns-clause-ends : goal.returns-clause-ends
+returns-clause-ends g c =
     let store : StoreView = c.args.self.now in
     let e : Entry = entry_of c.entry-entry.result.now in
     let some : 0 < c.args.number = omega (arith, c.if-number-eq0.false) in
@@ -59,11 +61,11 @@ returns-in-Ok-Some-clause-ends g c =
       told.0,
       piece_of_volume g.T.Tape.means c.args.unit.now.tape c.read_part.new.unit.tape c.args.part c.read_part.new.work store c.self.inside.map
           e
-          c.length-length.result (Ok (Some c.in-Ok-Some.read)) words told.1 (rw c.in-Ok-Some.field-0-is at c.in-Ok-Some.ensures.ends),
+          c.length-length.result (Ok (Some c.in-Some.read)) words told.1 (rw c.in-Some.is at c.in_ok-found.ensures.ends),
     )
 
-pub returns-in-Err-clause-ends : goal.returns-in-Err-clause-ends
-returns-in-Err-clause-ends g c =
+pub returns-in_err-found-clause-ends : goal.returns-in_err-found-clause-ends
+returns-in_err-found-clause-ends g c =
     let store : StoreView = c.args.self.now in
     let e : Entry = entry_of c.entry-entry.result.now in
     let some : 0 < c.args.number = omega (arith, c.if-number-eq0.false) in
@@ -76,22 +78,23 @@ returns-in-Err-clause-ends g c =
       entries = c.self.inside.table;
       part = take c.self.inside.shown c.read_part.new.work;
     } in
-    rw c.output_fault.ensures (part_failed g.T.Tape.means c.args.unit.now.tape c.read_part.new.unit.tape c.args.part c.read_part.new.work
-    store after c.args.number e
-    c.in-Err.fault told.0
+    let why : StoreFault = c.in_err-found.field-0.0 in
+    rw (passed c.from_residual.result why c.from_residual.ensures.1)
+    (part_failed g.T.Tape.means c.args.unit.now.tape c.read_part.new.unit.tape c.args.part c.read_part.new.work store after
+    c.args.number e why told.0
     (piece_of_volume g.T.Tape.means c.args.unit.now.tape c.read_part.new.unit.tape c.args.part c.read_part.new.work store c.self.inside.map
     e
-    c.length-length.result (Err c.in-Err.fault) words told.1 c.in-Err.ensures.ends))
+    c.length-length.result (Err why) words told.1 c.in_err-found.ensures.ends))
 
-pub returns-in-Err-clause-fits : goal.returns-in-Err-clause-fits
-returns-in-Err-clause-fits g c =
+pub returns-in_err-found-clause-fits : goal.returns-in_err-found-clause-fits
+returns-in_err-found-clause-fits g c =
     let store : StoreView = c.args.self.now in
     let e : Entry = entry_of c.entry-entry.result.now in
     let map = c.self.inside.map in
     let told : Tells g.T.Tape.means c.read_part.new.unit.tape (λ c'. c'.info.protected ≡ false → HasList c' store.entries) =
     part_tells g.T.Tape.means c.args.unit.now.tape c.read_part.new.unit.tape c.args.part c.read_part.new.work map
-    (pieces_of map (carrying map e.start e.end) c.length-length.result) (Err c.in-Err.fault)
-    (λ c'. c'.info.protected ≡ false → HasList c' store.entries) c.in-Err.ensures.ends c.requires.fits.volumes in
+    (pieces_of map (carrying map e.start e.end) c.length-length.result) (Err c.in_err-found.field-0.0)
+    (λ c'. c'.info.protected ≡ false → HasList c' store.entries) c.in_err-found.ensures.ends c.requires.fits.volumes in
     let after : StoreView = record {
       host = c.read_part.new.host;
       header = header_of c.self.inside.header;
