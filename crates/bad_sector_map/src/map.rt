@@ -12,7 +12,7 @@ use std::marker::Model;
 
 /// The sectors of each segment that are bad (QIC-80-MC), for at most 28 times `LONGEST` segments.
 /// Contracts see the words of the map, one for each segment: bit `i` is 1 where sector `i` is bad.
-#[derive(Debug, Drop)]
+#[derive(Drop)]
 pub struct BadMap {
     words: Vec<u32>,
 }

@@ -11,7 +11,7 @@ use crate::segment::SegmentMarks;
 use qic_base::{Disk, DiskFailed};
 
 /// Which sectors of a segment have their gates closed, are zeroed, and are formed.
-#[derive(Clone, Copy, Debug)]
+#[derive(Clone, Copy)]
 struct Chosen {
     readable: [bool; 32],
     usable: [bool; 32],

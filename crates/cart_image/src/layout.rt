@@ -44,7 +44,7 @@ pub const FORMED: u8 = 0xF0;
 pub const DEFECT: u8 = 0xBD;
 
 /// How the parts of the sectors lie.
-#[derive(Clone, Copy, Debug, PartialEq, Eq)]
+#[derive(Clone, Copy)]
 pub enum Kind {
     /// Version 1: a plane for each state byte, and the sectors' bytes behind them.
     Planes,
@@ -55,7 +55,7 @@ pub enum Kind {
 }
 
 /// A part of a sector: a byte of its state, or its 1,024 bytes.
-#[derive(Clone, Copy, Debug, PartialEq, Eq)]
+#[derive(Clone, Copy)]
 pub enum Part {
     GateByte,
     FormedByte,
@@ -64,14 +64,14 @@ pub enum Part {
 }
 
 /// How a cartridge of some length, 3 to `LONGEST` segments per track, lies in its file.
-#[derive(Clone, Copy, Debug, PartialEq, Eq)]
+#[derive(Clone, Copy)]
 pub struct Layout {
     pub segments_per_track: u16,
     pub kind: Kind,
 }
 
 /// What the head of an image tells.
-#[derive(Clone, Copy, Debug, PartialEq, Eq)]
+#[derive(Clone, Copy)]
 pub struct Head {
     pub layout: Layout,
     pub protected: bool,

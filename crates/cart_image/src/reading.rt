@@ -20,7 +20,7 @@ use qic_base::{Disk, DiskFailed, LONGEST, SECTOR, Sector, read_u16, read_u64};
 const SHORTEST: u16 = 3;
 
 /// What the state bytes say of a sector.
-#[derive(Clone, Copy, Debug, PartialEq, Eq)]
+#[derive(Clone, Copy)]
 pub enum SectorState {
     Blank,
     Defect,
@@ -155,17 +155,20 @@ fn read_plane<D: Disk>(disk: &mut D, place: u64) -> Result<[u8; 32], DiskFailed>
     Ok(part)
 }
 
-/// The bytes of a segment's sectors, where they stand beside each other.
-pub fn read_block<D: Disk>(disk: &mut D, place: u64) -> Result<[u8; 32768], DiskFailed>
+/// Reads the bytes of a segment's sectors, where they stand beside each other.
+pub fn read_block<D: Disk>(
+    disk: &mut D,
+    place: u64,
+    into: &mut [u8; 32768],
+) -> Result<(), DiskFailed>
     ensures looked { Looked D.means disk.old disk.new result }
     ensures cause { HasCause (D.means.faults disk.old) (D.means.faults disk.new) result }
-    ensures bytes { IfOk result (λ part. IfSome (D.means.told disk.old) (λ bytes.
-        place + 32768 ≤ length bytes → part ≡ slice_range bytes place (place + 32768))) }
+    ensures bytes { IfOk result (λ done. IfSome (D.means.told disk.old) (λ bytes.
+        place + 32768 ≤ length bytes → into.new ≡ slice_range bytes place (place + 32768))) }
     ensures seen { D.means.seen_len disk.new ≡ D.means.seen_len disk.old }
 {
-    let mut part = [0; 32768];
-    disk.read_at(place, &mut part)?;
-    Ok(part)
+    disk.read_at(place, into)?;
+    Ok(())
 }
 
 /// The three state bytes of a sector that stand beside each other: its gate, its formed byte and its defect byte.

@@ -9,7 +9,7 @@ use crate::reading::SectorState;
 use qic_base::LostSet;
 
 /// The state bytes of the sectors of a segment.
-#[derive(Clone, Copy, Debug)]
+#[derive(Clone, Copy)]
 pub struct SegmentMarks {
     pub gates: [u8; 32],
     pub formed: [u8; 32],
@@ -17,7 +17,7 @@ pub struct SegmentMarks {
 }
 
 /// A segment, and what the state bytes say of each of its sectors.
-#[derive(Clone, Copy, Debug)]
+#[derive(Clone, Copy)]
 pub struct SegmentStates {
     pub segment: u32,
     pub states: [SectorState; 32],

@@ -18,7 +18,7 @@ use qic_base::{Disk, DiskFailed, LostSet, Sector};
 
 /// Which of the sectors of a segment that are to be written have their gates closed first, and which take the write; and
 /// those that were never formatted.
-#[derive(Clone, Copy, Debug)]
+#[derive(Clone, Copy)]
 struct Chosen {
     readable: [bool; 32],
     taking: [bool; 32],

@@ -16,25 +16,22 @@ use crate::segment::SegmentMarks;
 use crate::synced::{put, put_len};
 use qic_base::{Disk, DiskFailed, SECTOR, TRACKS, write_u64};
 
-/// A segment: the state bytes of its sectors, and their bytes.
-#[derive(Clone, Copy)]
-struct Segment {
-    marks: SegmentMarks,
-    block: [u8; 32768],
-}
+/// The bytes of a segment's sectors.
+type Block = [u8; 32768];
 
-/// Reads a segment in planes.
+/// Reads a segment in planes: its bytes into the block. The answer is its state bytes.
 fn read_segment<D: Disk>(
     disk: &mut D,
     segments_per_track: u16,
     segment: u32,
-) -> Result<Segment, DiskFailed>
+    block: &mut Block,
+) -> Result<SegmentMarks, DiskFailed>
     requires { segment < 28 * segments_per_track }
     ensures looked { Looked D.means disk.old disk.new result }
     ensures cause { HasCause (D.means.faults disk.old) (D.means.faults disk.new) result }
-    ensures cells { IfOk result (λ found. IfSome (D.means.told disk.old) (λ bytes.
+    ensures cells { IfOk result (λ marks. IfSome (D.means.told disk.old) (λ bytes.
         length_of segments_per_track ≤ length bytes → (i : ℕ) → i < 32 →
-        cell_with found.marks.gates found.marks.formed found.marks.defects found.block i
+        cell_with marks.gates marks.formed marks.defects block.new i
         ≡ cell_in segments_per_track bytes (32 * segment + i))) }
     ensures seen { D.means.seen_len disk.new ≡ D.means.seen_len disk.old }
 {
@@ -44,22 +41,22 @@ fn read_segment<D: Disk>(
     };
     let marks = read_planes(disk, layout, segment)?;
     let first = 32 * segment as u64;
-    let block = read_block(disk, plane_place(segments_per_track, Part::Data, first))?;
-    Ok(Segment { marks, block })
+    let place = plane_place(segments_per_track, Part::Data, first);
+    read_block(disk, place, block)?;
+    Ok(marks)
 }
 
 /// The four parts of one of its sectors, beside each other.
 #[tactic(auto, unfolding(crate::specs::Layout::cell_with))]
-fn cell_of(segment: &Segment, i: usize) -> Cell
+fn cell_of(marks: &SegmentMarks, block: &Block, i: usize) -> Cell
     requires { i < 32 }
-    ensures { result ≡ cell_with segment.now.marks.gates segment.now.marks.formed
-        segment.now.marks.defects segment.now.block i }
+    ensures { result ≡ cell_with marks.now.gates marks.now.formed marks.now.defects block.now i }
 {
     cell(
-        segment.marks.gates[i],
-        segment.marks.formed[i],
-        segment.marks.defects[i],
-        &segment.block[SECTOR * i..SECTOR * i + SECTOR],
+        marks.gates[i],
+        marks.formed[i],
+        marks.defects[i],
+        &block[SECTOR * i..SECTOR * i + SECTOR],
     )
 }
 
@@ -68,13 +65,13 @@ fn write_cells<D: Disk>(
     disk: &mut D,
     segments_per_track: u16,
     first: u64,
-    segment: &Segment,
+    marks: &SegmentMarks,
+    block: &Block,
 ) -> Result<(), DiskFailed>
     requires on { first + 32 ≤ 896 * segments_per_track }
     requires covers { upgraded_to segments_per_track ≤ D.means.seen_len disk.old }
     ensures ran { Runs D.means disk.old disk.new (cells_by segments_per_track first
-        (cell_with segment.now.marks.gates segment.now.marks.formed segment.now.marks.defects
-        segment.now.block) 32) result }
+        (cell_with marks.now.gates marks.now.formed marks.now.defects block.now) 32) result }
     ensures seen { D.means.seen_len disk.new ≡ D.means.seen_len disk.old }
 {
     for i in 0..32 {
@@ -83,16 +80,17 @@ fn write_cells<D: Disk>(
             Part::GateByte,
             first + i as u64,
         );
-        disk.write_at(place, &cell_of(segment, i))?;
+        disk.write_at(place, &cell_of(marks, block, i))?;
     }
     Ok(())
 }
 
-/// Copies a segment.
+/// Copies a segment, by way of the block.
 fn copy_segment<D: Disk>(
     disk: &mut D,
     segments_per_track: u16,
     segment: u32,
+    block: &mut Block,
 ) -> Result<(), DiskFailed>
     requires place { segment < 28 * segments_per_track }
     requires covers { upgraded_to segments_per_track ≤ D.means.seen_len disk.old }
@@ -100,8 +98,8 @@ fn copy_segment<D: Disk>(
         (λ bytes. copy_segment_steps segments_per_track segment bytes) result }
     ensures seen { D.means.seen_len disk.new ≡ D.means.seen_len disk.old }
 {
-    let found = read_segment(disk, segments_per_track, segment)?;
-    write_cells(disk, segments_per_track, 32 * segment as u64, &found)
+    let marks = read_segment(disk, segments_per_track, segment, block)?;
+    write_cells(disk, segments_per_track, 32 * segment as u64, &marks, block)
 }
 
 /// Copies all segments.
@@ -112,8 +110,9 @@ fn copy_all<D: Disk>(disk: &mut D, segments_per_track: u16) -> Result<(), DiskFa
     ensures seen { D.means.seen_len disk.new ≡ D.means.seen_len disk.old }
 {
     let count = TRACKS * segments_per_track as u32;
+    let mut block = [0; 32768];
     for segment in 0..count {
-        copy_segment(disk, segments_per_track, segment)?;
+        copy_segment(disk, segments_per_track, segment, &mut block)?;
     }
     Ok(())
 }
@@ -129,7 +128,8 @@ fn base_bytes(base: u64) -> [u8; 8]
 }
 
 /// Brings a version 1 image to version 2. It is a whole image of version 1 until the last byte, the layout mark, is
-/// written.
+/// written. It has its room for a segment to itself, which no other command takes then.
+#[inline(never)]
 #[tactic(auto, unfolding(crate::specs::Layout::upgrade_steps))]
 pub fn upgrade<D: Disk>(disk: &mut D, segments_per_track: u16) -> Result<(), DiskFailed>
     requires covers { length_of segments_per_track ≤ D.means.seen_len disk.old }

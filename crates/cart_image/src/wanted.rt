@@ -77,8 +77,11 @@ fn read_all_states<D: Disk>(disk: &mut D, layout: Layout, segment: u32) -> Optio
     }
 }
 
+/// Of so few sectors the state bytes are read sooner one by one than all at once, and in less room.
+const FEW: u8 = 4;
+
 /// What the state bytes say of the wanted sectors of a segment in cells: all its bytes are read at once, and just those
-/// state bytes where the disk fails in that. So it fails only where the disk fails in these.
+/// state bytes where few sectors are wanted, or the disk fails in that. So it fails only where the disk fails in these.
 pub fn read_states<D: Disk>(
     disk: &mut D,
     layout: Layout,
@@ -93,6 +96,9 @@ pub fn read_states<D: Disk>(
         end_of layout ≤ length bytes → AreStatesOf layout segment wanted bytes states)) }
     ensures seen { D.means.seen_len disk.new ≡ D.means.seen_len disk.old }
 {
+    if wanted.count() <= FEW {
+        return read_each_state(disk, layout, segment, wanted);
+    }
     match read_all_states(disk, layout, segment) {
         Some(states) => Ok(states),
         None => read_each_state(disk, layout, segment, wanted),

@@ -7,7 +7,7 @@ use Rattle.std.specs.Prelude.{◌==◌, ◌&&◌, if◌then◌else◌, codes, de
 use Rattle.segment_io.proofs.Going.{tells_always}
 use Rattle.cartridge_front.proofs.Copies.{IsLearnt, told_learnt}
 use Rattle.cartridge_front.specs.Finding.{HasFormat, FindsHeader, FindsVolumes, ShowsVolumes, Leaves, NamesCause, is_of_mounting}
-use Rattle.segment_io.specs.declared.fault.StoreFault.{StoreFault}
+use Rattle.qic_base.specs.declared.store_fault.StoreFault.{StoreFault}
 use Rattle.cartridge_front.specs.declared.table_reader.Unread.{Unread}
 use Rattle.cartridge_spec.specs.Mounting.{Mounted, Mounts}
 use Rattle.cartridge_spec.specs.Table.{Entry}
@@ -50,7 +50,7 @@ use Rattle.qic_base.specs.SinkCalls as sink_calls
 use Rattle.qic_base.specs.Tape as tapes
 use Rattle.qic_base.specs.TapeCalls as tape_calls
 use Rattle.cartridge_check.specs.declared.fault.CheckFault.TheVariants as fault
-use Rattle.segment_io.specs.declared.fault.StoreFault.TheVariants as store
+use Rattle.qic_base.specs.declared.store_fault.StoreFault.TheVariants as store
 use Rattle.command_spec.specs.declared.status.Status.TheVariants as status
 
 -- ---- the cartridge that is there

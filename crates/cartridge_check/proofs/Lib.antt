@@ -1,4 +1,5 @@
 pub mod Ending
+pub mod Front
 pub mod Joining
 pub mod Looked
 pub mod Parts

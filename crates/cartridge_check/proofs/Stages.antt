@@ -5,7 +5,7 @@ use Rattle.std.specs.List.{AllZip}
 use Rattle.cartridge_front.proofs.Mounts.{sound_format, last_learnt}
 use Rattle.cartridge_front.proofs.Copies.{IsLearnt}
 use Rattle.cartridge_front.specs.Finding.{HasFormat, FindsHeader, FindsVolumes, ShowsVolumes}
-use Rattle.segment_io.specs.declared.fault.StoreFault.{StoreFault}
+use Rattle.qic_base.specs.declared.store_fault.StoreFault.{StoreFault}
 use Rattle.cartridge_laws.proofs.MountOnce.{mounts_is_function, not_unformatted}
 use Rattle.cartridge_laws.proofs.Sayings.{says_is_function}
 use Rattle.cartridge_laws.specs.HeaderTerms.{fault_as}
@@ -29,7 +29,7 @@ use Rattle.qic_base.specs.Acts.{Act}
 use Rattle.qic_base.specs.Cartridge.{Cartridge}
 use Rattle.cartridge_check.specs.Checking.{ended, as_check, fault_status}
 use Rattle.cartridge_check.proofs.Parts.{PartsOf, zip_part, zip_length, acts_join}
-use Rattle.segment_io.specs.declared.fault.StoreFault.TheVariants as store
+use Rattle.qic_base.specs.declared.store_fault.StoreFault.TheVariants as store
 use Rattle.cartridge_spec.specs.Mounting as mounting
 
 -- ---- how its outcome begins

@@ -55,7 +55,6 @@ undecided_found c sectors (seg.Lost segment n) finds =
     record { opens = false; table = λ area table. not_lost c area n table finds.1; is = refl }
 undecided_found c sectors (seg.Mismatch segment) finds =
     record { opens = false; table = λ area table. not_at_odds c area finds.1 table; is = refl }
-undecided_found c sectors seg.Tape finds = absurd finds
 
 module _ {T : Type 0} (m : Meaning T) (tape : T) (sectors : List (List ℕ)) where
   pub undecided_open : Tells m tape (λ c. TableIs c (take 29 sectors)) → Tells m tape (λ c. IsUndecided c Unsettled)

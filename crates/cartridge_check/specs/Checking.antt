@@ -16,12 +16,12 @@ use Rattle.command_spec.specs.Check.{Checks, IsCheck, check_refused, header_copi
 use Rattle.cartridge_check.specs.Telling.{HasTold, TellingCut}
 use Rattle.cartridge_check.specs.declared.fault.CheckFault.{CheckFault}
 use Rattle.cartridge_check.specs.declared.tally.Tally.{Tally}
-use Rattle.segment_io.specs.declared.fault.StoreFault.{StoreFault}
+use Rattle.qic_base.specs.declared.store_fault.StoreFault.{StoreFault}
 use Rattle.qic_base.specs.Sink as sinks
 use Rattle.qic_base.specs.Tape as tapes
 use Rattle.qic_base.specs.TapeCalls as tape_calls
 use Rattle.cartridge_check.specs.declared.fault.CheckFault.TheVariants as fault
-use Rattle.segment_io.specs.declared.fault.StoreFault.TheVariants as store
+use Rattle.qic_base.specs.declared.store_fault.StoreFault.TheVariants as store
 use Rattle.command_spec.specs.declared.status.Status.TheVariants as status
 
 -- ---- answers

@@ -19,8 +19,8 @@ use bad_sector_map::BadMap;
 use cartridge_front::{enter_primary, read_header, read_volumes};
 use drive_states::Unit;
 use host_driver::Host;
-use qic_base::{Sink, Tape, write_text};
-use segment_io::{StoreFault, Workspace};
+use qic_base::{Sink, StoreFault, Tape, write_text};
+use segment_io::Workspace;
 use volume_store::{Room, start};
 use volume_table::Table;
 

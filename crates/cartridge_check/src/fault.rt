@@ -6,7 +6,7 @@ ghost use Rattle.cartridge_check.specs.declared.fault.CheckFault.TheVariants.{Si
 use qic_base::{ForeignField, SinkFailed, TapeFailed};
 
 /// Why a check was cut off, or refused behind the lines of the segments in front.
-#[derive(Clone, Copy, Debug, Drop, PartialEq, Eq)]
+#[derive(Clone, Copy, Drop)]
 pub enum CheckFault {
     /// The drive holds no cartridge.
     NoCartridge,

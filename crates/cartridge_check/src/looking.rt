@@ -8,7 +8,7 @@ ghost use Rattle.command_spec.specs.Scrub.{whole_segment};
 ghost use Rattle.drive_spec.specs.Terms.{is_referenced};
 ghost use Rattle.drive_states.specs.Reach.{reads_in};
 ghost use Rattle.host_driver.specs.Calls.{IsReady, Keeps};
-ghost use Rattle.segment_io.specs.Calls.{HasSegment};
+ghost use Rattle.segment_io.specs.Calls.{CanRead};
 ghost use Rattle.command_spec.specs.Check.{verdict_line, header_copies};
 ghost use Rattle.cartridge_check.specs.Telling.{Counted, HasFew, TellsAll};
 
@@ -49,9 +49,7 @@ pub(crate) fn tell_segment<T: Tape, K: Sink>(
     sink: &mut K,
     tally: &mut Tally,
 ) -> Result<(), CheckFault>
-    requires ready { IsReady T.means host.old unit.old }
-    requires segment { HasSegment unit.old.drive.deck segment usable }
-    requires mode { reads_in unit.old.drive.deck.mode ≡ true }
+    requires can { CanRead T.means host.old unit.old segment usable }
     requires whole { segment < 2 → usable ≡ whole_mask }
     requires other { segment ≢ 2 }
     requires few { HasFew (2 ^ 26) tally.old }

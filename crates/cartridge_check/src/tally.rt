@@ -6,7 +6,7 @@ ghost use Rattle.cartridge_check.specs.Telling.{Counted, HasFew};
 use command_spec::Verdict;
 
 /// What a check counted.
-#[derive(Clone, Copy, Debug, PartialEq, Eq)]
+#[derive(Clone, Copy)]
 pub struct Tally {
     /// The segments that were looked at.
     pub segments: u32,

@@ -9,7 +9,7 @@ ghost use Rattle.command_spec.specs.Scrub.{whole_segment};
 ghost use Rattle.drive_spec.specs.Terms.{is_referenced};
 ghost use Rattle.drive_states.specs.Reach.{reads_in};
 ghost use Rattle.host_driver.specs.Calls.{IsReady, Keeps};
-ghost use Rattle.segment_io.specs.Calls.{HasSegment};
+ghost use Rattle.segment_io.specs.Calls.{CanRead};
 ghost use Rattle.segment_mending.specs.Searching.{SearchFinds, SearchMayFind};
 ghost use Rattle.cartridge_check.specs.Verdicts.{IsJudged, IsUndecided};
 
@@ -61,9 +61,7 @@ pub(crate) fn look_at_segment<T: Tape>(
     usable: u32,
     work: &mut Workspace,
 ) -> Result<Verdict, TapeFailed>
-    requires ready { IsReady T.means host.old unit.old }
-    requires segment { HasSegment unit.old.drive.deck segment usable }
-    requires mode { reads_in unit.old.drive.deck.mode ≡ true }
+    requires can { CanRead T.means host.old unit.old segment usable }
     requires whole { segment < 2 → usable ≡ whole_mask }
     requires other { segment ≢ 2 }
     ensures did { Does T.means unit.old.tape unit.new.tape [] result }
@@ -128,11 +126,10 @@ fn look_at_undecided<T: Tape>(
     ensures room { length work.new ≡ 32 }
     ensures keeps { Keeps T.means host.new unit.old unit.new }
 {
-    match read_table(host, unit, work) {
+    match read_table(host, unit, work)? {
         Ok(_) => Ok(Verdict::Unsettled),
         Err(SegFault::Lost { .. }) => Ok(Verdict::Contradicts),
         Err(SegFault::Mismatch { .. }) => Ok(Verdict::Contradicts),
-        Err(SegFault::Tape) => Err(TapeFailed),
     }
 }
 

@@ -28,11 +28,11 @@ use Rattle.cartridge_front.specs.Again.{FindsList, IsBrokenOff, IsOfReading, IsR
 use Rattle.cartridge_front.specs.Again.{IsSettledAgain, BrokeUnread, FaultUnread}
 use Rattle.cartridge_front.specs.Finding.{FindsTable, refusal_of, Leaves}
 use Rattle.cartridge_front.specs.Settling.{mending_steps}
-use Rattle.segment_io.specs.declared.fault.StoreFault.{StoreFault}
+use Rattle.qic_base.specs.declared.store_fault.StoreFault.{StoreFault}
 use Rattle.cartridge_front.specs.declared.table_reader.Unread.{Unread}
 use Rattle.cartridge_laws.proofs.MountOnce.{one_table}
 use Rattle.segment_io.specs.declared.fault.SegFault.TheVariants as seg
-use Rattle.segment_io.specs.declared.fault.StoreFault.TheVariants as fault
+use Rattle.qic_base.specs.declared.store_fault.StoreFault.TheVariants as fault
 
 -- .. so data that show another tell that it doesn't
 pub list_missing : (c : Cartridge) (area : List (List ℕ)) (entries : List Entry) → ¬ (Shows area entries) → TableIs c area →
@@ -47,7 +47,6 @@ finds_fault c sectors entries (seg.Mismatch segment) found =
     let none : HasNoBlock (table_cells c) = subst (λ (cells : List SectorView). HasNoBlock cells) (nothing_is_hidden (table_cells c))
     (All-head (λ (set : ℕ). HasNoBlock (hidden_from set 0 (table_cells c))) 0 _ found.1.1.1) in
     λ has. none has.block has.code has.agrees
-finds_fault c sectors entries seg.Tape found = found
 
 -- ---- a call that was refused by its reading
 

@@ -88,7 +88,6 @@ unsolved_fault set old new (seg.Lost segment n) solves = λ cells count gathered
     let says = (solves cells (whole_length cells count) gathered).1 in absurd (omega (arith, says.0, says.1))
 unsolved_fault set old new (seg.Mismatch segment) solves =
     λ cells count gathered few. (solves cells (whole_length cells count) gathered).1.1
-unsolved_fault set old new seg.Tape solves = λ cells count gathered few. absurd (solves cells (whole_length cells count) gathered)
 
 -- an answer without one
 pub solved_answer : (set : ℕ) (old new : List (List ℕ)) →

@@ -25,11 +25,11 @@ use Rattle.segment_io.specs.declared.fault.SegFault.{SegFault}
 use Rattle.segment_io.proofs.SolvedCells.{says_lost}
 use Rattle.cartridge_front.specs.declared.table_reader.Unread.{Unread}
 use Rattle.cartridge_spec.specs.Table.{Entry}
-use Rattle.segment_io.specs.declared.fault.StoreFault.{StoreFault}
+use Rattle.qic_base.specs.declared.store_fault.StoreFault.{StoreFault}
 use Rattle.cartridge_front.specs.Finding.{FindsTable, FindsVolumes, DecodesTable}
 use Rattle.cartridge_front.specs.Reading.{IsReadBut, SolvesTable}
 use Rattle.segment_io.specs.declared.fault.SegFault.TheVariants as seg
-use Rattle.segment_io.specs.declared.fault.StoreFault.TheVariants as store
+use Rattle.qic_base.specs.declared.store_fault.StoreFault.TheVariants as store
 
 -- a cell that isn't unreadable holds bytes
 readable_holds : (view : SectorView) → ¬ (IsUnreadable view) → (bytes : List ℕ) × (view ≡ Holds bytes)
@@ -118,7 +118,6 @@ pub finds_solving : (c : Cartridge) (sectors : List (List ℕ)) (r : Result Unre
 finds_solving c sectors (Ok unread) solves = inr solves.says
 finds_solving c sectors (Err (seg.Lost segment n)) solves = absurd solves
 finds_solving c sectors (Err (seg.Mismatch segment)) solves = solves
-finds_solving c sectors (Err seg.Tape) solves = solves
 
 pub known_solving : {T : Type 0} (m : Meaning T) (tape : T) (lost : ℕ) (old new : List (List ℕ)) (r : Result Unread SegFault) →
     ((cells : List SectorView) → length cells ≡ 32 → Gathered cells lost old → SolvesTable cells new r) →

@@ -14,8 +14,8 @@ use Rattle.cartridge_spec.specs.Appending.{table_writes}
 use Rattle.cartridge_spec.specs.Settling.{settling_steps}
 use Rattle.command_spec.specs.Numbers.{AreTooMany}
 use Rattle.cartridge_front.specs.Reading.{IsReadBut}
-use Rattle.segment_io.specs.declared.fault.StoreFault.{StoreFault}
-use Rattle.segment_io.specs.declared.fault.StoreFault.TheVariants.{Lost, TableMismatch, Tape}
+use Rattle.qic_base.specs.declared.store_fault.StoreFault.{StoreFault}
+use Rattle.qic_base.specs.declared.store_fault.StoreFault.TheVariants.{Lost, TableMismatch, Tape}
 use Rattle.cartridge_front.specs.declared.table_reader.Unread.{Unread}
 
 -- ---- read again

@@ -24,10 +24,10 @@ use Rattle.header_segments.specs.Refusal.{FitsField}
 use Rattle.cartridge_laws.specs.HeaderLaws.{AreTaken}
 use Rattle.segment_io.specs.declared.fault.SegFault.{SegFault}
 use Rattle.segment_io.specs.declared.fault.SegFault.TheVariants as seg
-use Rattle.segment_io.specs.declared.fault.StoreFault.{StoreFault}
+use Rattle.qic_base.specs.declared.store_fault.StoreFault.{StoreFault}
 use Rattle.cartridge_front.specs.declared.table_reader.Unread.{Unread}
 use Rattle.cartridge_front.specs.Reading.{IsReadBut}
-use Rattle.segment_io.specs.declared.fault.StoreFault.TheVariants.{Foreign, NotFormatted, Lost, TableMismatch, Tape}
+use Rattle.qic_base.specs.declared.store_fault.StoreFault.TheVariants.{Foreign, NotFormatted, Lost, TableMismatch, Tape}
 
 -- ---- the tape
 
@@ -142,13 +142,11 @@ abbrev pub FindsTable : {A : Type 0} (c : Cartridge) (sectors : List (List ℕ))
 FindsTable c sectors (Ok done) = TableIs c (take 29 sectors)
 FindsTable c sectors (Err (seg.Lost segment lost)) = (segment ≡ 2) × TableSays (table_cells c) (says.ByCode (says.LostSectors lost))
 FindsTable c sectors (Err (seg.Mismatch segment)) = (segment ≡ 2) × TableSays (table_cells c) (says.ByCode says.Mismatch)
-FindsTable c sectors (Err seg.Tape) = ⊥
 
 -- the refusal that a fault of the table's segment is
 abbrev pub refusal_of : SegFault → StoreFault
 refusal_of (seg.Lost segment lost) = Lost segment lost
 refusal_of (seg.Mismatch segment) = TableMismatch
-refusal_of seg.Tape = Tape
 
 -- ---- the list of volumes
 

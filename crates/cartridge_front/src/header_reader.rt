@@ -14,8 +14,8 @@ use bad_sector_map::BadMap;
 use drive_states::Unit;
 use header_segments::{Header, HeaderFault, decode};
 use host_driver::Host;
-use qic_base::{Sector, Tape, WHOLE};
-use segment_io::{SegFault, StoreFault, Workspace, read_segment};
+use qic_base::{Sector, StoreFault, Tape, WHOLE};
+use segment_io::{SegFault, Workspace, read_segment};
 
 /// The first copy of the header, segment 0; the second stands in segment 1.
 const FIRST_COPY: u32 = 0;
@@ -62,10 +62,9 @@ fn read_copy<T: Tape>(
     ensures keeps { Keeps T.means host.new unit.old unit.new }
 {
     let segments_per_track = host.geometry().segments_per_track();
-    match read_segment(host, unit, copy, WHOLE, work) {
+    match read_segment(host, unit, copy, WHOLE, work)? {
         Ok(_) => decode_copy(data_sectors(work), segments_per_track, map),
         Err(SegFault::Lost { .. } | SegFault::Mismatch { .. }) => Ok(None),
-        Err(SegFault::Tape) => Err(StoreFault::Tape),
     }
 }
 

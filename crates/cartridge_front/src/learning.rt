@@ -16,9 +16,9 @@ use bad_sector_map::BadMap;
 use drive_states::Unit;
 use header_segments::Header;
 use host_driver::{Host, WriteProtected};
-use qic_base::Tape;
+use qic_base::{StoreFault, Tape};
 use qic117_commands::Mode;
-use segment_io::{StoreFault, Workspace};
+use segment_io::Workspace;
 use volume_table::Table;
 
 /// The header in force, and the sectors of the volume table's segment that the tape may hold otherwise.

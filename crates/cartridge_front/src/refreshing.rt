@@ -17,8 +17,8 @@ use crate::table_writer::write_entry;
 use crate::volume_reader::table_fault;
 use drive_states::Unit;
 use host_driver::Host;
-use qic_base::Tape;
-use segment_io::{StoreFault, Workspace};
+use qic_base::{StoreFault, Tape};
+use segment_io::Workspace;
 use volume_table::{Entry, Table};
 
 /// Reads the table's segment, whose data have to show the list. The answer is the sectors that the tape may hold
@@ -40,7 +40,7 @@ fn read_list<T: Tape>(
     ensures room { length work.new ≡ 32 }
     ensures keeps { Keeps T.means host.new unit.old unit.new }
 {
-    match read_table(host, unit, work) {
+    match read_table(host, unit, work)? {
         Ok(unread) => {
             if table.is_shown_by(data_sectors(work)) {
                 Ok(unread)

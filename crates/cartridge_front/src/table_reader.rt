@@ -1,9 +1,9 @@
 //! The volume table's segment read.
 
-ghost use Rattle.std.specs.Prelude.{◌≡◌, ◌≢◌, ◌<◌, ◌≤◌, ◌↔◌, ◌++◌, ℕ, List, Some, true, length, take, drop, IfOk, IfSome, IsOkUnless};
+ghost use Rattle.std.specs.Prelude.{◌≡◌, ◌<◌, ◌≤◌, ◌↔◌, ◌++◌, ℕ, List, [], Some, true, length, take, drop, IfOk, IfSome, IsOkUnless};
 ghost use Rattle.qic_base.specs.CartridgeTerms.{IsLost};
 ghost use Rattle.qic_base.specs.Cartridge.{lost_places};
-ghost use Rattle.qic_base.specs.TapeCalls.{Tells};
+ghost use Rattle.qic_base.specs.TapeCalls.{Does, Tells};
 ghost use Rattle.qic_base.specs.declared.tape.SectorView.{SectorView};
 ghost use Rattle.cartridge_spec.specs.TableSegment.{table_cells};
 ghost use Rattle.cartridge_laws.specs.Says.{LosesData};
@@ -12,19 +12,18 @@ ghost use Rattle.drive_spec.specs.Terms.{is_referenced};
 ghost use Rattle.drive_states.specs.Reach.{reads_in};
 ghost use Rattle.host_driver.specs.Calls.{IsReady, Keeps};
 ghost use Rattle.segment_io.specs.Gathered.{Gathered};
-ghost use Rattle.segment_io.specs.Reading.{OnlyReads};
 ghost use Rattle.cartridge_front.specs.Finding.{FindsTable};
 ghost use Rattle.cartridge_front.specs.Reading.{IsReadBut, SolvesFirst, SolvesTable};
 
 use drive_states::Unit;
 use gf256_qic::DATA_SECTORS;
 use host_driver::Host;
-use qic_base::{LostSet, Sector, Tape, WHOLE};
+use qic_base::{LostSet, Sector, Tape, TapeFailed, WHOLE};
 use segment_io::{SegFault, Workspace, collect, solve_collected};
 use volume_table::{TABLE_SEGMENT, Table, TableReading, Trials, last_used, trials};
 
 /// The sectors of the volume table's segment that a workspace may not have as the tape holds them.
-#[derive(Clone, Copy, Debug, PartialEq, Eq)]
+#[derive(Clone, Copy)]
 pub struct Unread {
     /// Those that can't be read.
     pub lost: LostSet,
@@ -122,33 +121,34 @@ pub fn read_table<T: Tape>(
     host: &mut Host,
     unit: &mut Unit<T>,
     work: &mut Workspace,
-) -> Result<Unread, SegFault>
+) -> Result<Result<Unread, SegFault>, TapeFailed>
     requires ready { IsReady T.means host.old unit.old }
     requires mode { reads_in unit.old.drive.deck.mode ≡ true }
     requires referenced { is_referenced unit.old.drive.deck ≡ true }
-    ensures did { OnlyReads T.means unit.old.tape unit.new.tape result }
-    ensures found { result ≢ Err SegFault.Tape → Tells T.means unit.old.tape (λ c.
-        FindsTable c work.new result) }
+    ensures did { Does T.means unit.old.tape unit.new.tape [] result }
+    ensures found { IfOk result (λ read. Tells T.means unit.old.tape (λ c.
+        FindsTable c work.new read)) }
     // Each other sector stands as the tape holds it.
-    ensures known { IfOk result (λ unread. Tells T.means unit.old.tape (λ c.
-        IsReadBut (table_cells c) unread work.new)) }
+    ensures known { IfOk result (λ read. IfOk read (λ unread. Tells T.means unit.old.tape (λ c.
+        IsReadBut (table_cells c) unread work.new))) }
     // And where the tape tells nothing:
-    ensures many { (named n : ℕ) → result ≡ Err (SegFault.Lost named n) →
-        (named ≡ 2) × AreTooMany n }
-    ensures mismatch { (named : ℕ) → result ≡ Err (SegFault.Mismatch named) → named ≡ 2 }
+    ensures many { IfOk result (λ read. (named n : ℕ) → read ≡ Err (SegFault.Lost named n) →
+        (named ≡ 2) × AreTooMany n) }
+    ensures mismatch { IfOk result (λ read. (named : ℕ) →
+        read ≡ Err (SegFault.Mismatch named) → named ≡ 2) }
     ensures room { length work.new ≡ 32 }
     ensures keeps { Keeps T.means host.new unit.old unit.new }
 {
     let lost = collect(host, unit, TABLE_SEGMENT, WHOLE, work)?;
     match Table::reading(lost) {
-        TableReading::AsRead => Ok(Unread {
+        TableReading::AsRead => Ok(Ok(Unread {
             lost,
             left_out: LostSet::from_mask(0),
-        }),
-        TableReading::Solve => solve_table(lost, work),
-        TableReading::TooMany { lost } => Err(SegFault::Lost {
+        })),
+        TableReading::Solve => Ok(solve_table(lost, work)),
+        TableReading::TooMany { lost } => Ok(Err(SegFault::Lost {
             segment: TABLE_SEGMENT,
             lost,
-        }),
+        })),
     }
 }

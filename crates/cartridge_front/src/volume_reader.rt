@@ -11,8 +11,8 @@ ghost use Rattle.cartridge_front.specs.Finding.{Leaves, NamesCause, RefusesMount
 use crate::table_reader::{Unread, data_sectors, read_table};
 use drive_states::Unit;
 use host_driver::Host;
-use qic_base::{ForeignField, Sector, TRACKS, Tape};
-use segment_io::{SegFault, StoreFault, Workspace};
+use qic_base::{ForeignField, Sector, StoreFault, TRACKS, Tape};
+use segment_io::{SegFault, Workspace};
 use volume_table::{Table, TableFault};
 
 /// Why the table's segment has no data.
@@ -22,7 +22,6 @@ pub(crate) fn table_fault(fault: SegFault) -> StoreFault
     match fault {
         SegFault::Lost { segment, lost } => StoreFault::Lost { segment, lost },
         SegFault::Mismatch { .. } => StoreFault::TableMismatch,
-        SegFault::Tape => StoreFault::Tape,
     }
 }
 
@@ -71,7 +70,7 @@ pub fn read_volumes<T: Tape>(
     ensures keeps { Keeps T.means host.new unit.old unit.new }
 {
     let last = TRACKS * u32::from(host.geometry().segments_per_track()) - 1;
-    match read_table(host, unit, work) {
+    match read_table(host, unit, work)? {
         Ok(unread) => {
             decode_table(table, data_sectors(work), last)?;
             Ok(unread)

@@ -7,7 +7,7 @@ use Rattle.command_spec.specs.CopyPromises.{CopyPromises, Decks}
 use Rattle.command_spec.specs.Copying.{CopyOutcome, CopyYields, Side, length_on, missing}
 use Rattle.command_spec.specs.declared.copy_status.CopyStatus.{CopyStatus}
 use Rattle.qic_base.specs.Cartridge.{Cartridge}
-use Rattle.command_spec.specs.declared.copy_fault.CopyFault.TheVariants as fault
+use Rattle.qic_base.specs.declared.store_fault.StoreFault.TheVariants as fault
 use Rattle.command_spec.specs.declared.copy_status.CopyStatus.TheVariants as status
 use Rattle.qic_base.specs.Sink as sinks
 use Rattle.qic_base.specs.Tape as tapes

@@ -17,7 +17,7 @@ use Rattle.command_spec.specs.Headline.{EachLeft, ToldNow}
 use Rattle.command_spec.specs.Lines.{count_line}
 use Rattle.command_spec.specs.Outcome.{is_refused}
 use Rattle.command_spec.specs.Restore.{GivingEnd, Restores, pieces}
-use Rattle.command_spec.specs.declared.copy_fault.CopyFault.{CopyFault}
+use Rattle.qic_base.specs.declared.store_fault.StoreFault.{StoreFault}
 use Rattle.command_spec.specs.declared.copy_status.CopyStatus.{CopyStatus}
 use Rattle.qic_base.specs.Acts.{Act, SinkCut, TapeCut, Went, steps_of}
 use Rattle.qic_base.specs.Alone.{around, no_source}
@@ -25,7 +25,7 @@ use Rattle.qic_base.specs.Cartridge.{Cartridge}
 use Rattle.qic_base.specs.Tape.{Rose}
 use Rattle.qic_base.specs.Step.{Torn, effects}
 use Rattle.cartridge_spec.specs.Mounting as mounting
-use Rattle.command_spec.specs.declared.copy_fault.CopyFault.TheVariants as fault
+use Rattle.qic_base.specs.declared.store_fault.StoreFault.TheVariants as fault
 use Rattle.command_spec.specs.declared.copy_status.CopyStatus.TheVariants as status
 use Rattle.qic_base.specs.Sink as sinks
 use Rattle.qic_base.specs.Tape as tapes
@@ -94,7 +94,7 @@ CopyEnds a b k old new answer from to = CopyWent a b k old new answer from to
 -- ---- over any tapes
 
 -- the refusals that a mounting may give, and its fault
-abbrev pub is_mount_fault : CopyFault → Bool
+abbrev pub is_mount_fault : StoreFault → Bool
 is_mount_fault fault.NotFormatted = true
 is_mount_fault (fault.Foreign field value) = is_refused field value
 is_mount_fault fault.TableMismatch = true
@@ -103,13 +103,13 @@ is_mount_fault fault.Tape = true
 is_mount_fault other = false
 
 -- the source is mounted, and volumes of it are read
-abbrev pub is_from_fault : CopyFault → Bool
+abbrev pub is_from_fault : StoreFault → Bool
 is_from_fault (fault.Lost segment lost) = nat_lt 3 lost
 is_from_fault (fault.Mismatch segment) = true
 is_from_fault other = is_mount_fault other
 
 -- the target is mounted, and volumes are appended: where it is full, a volume needs more than the room, or there is none
-abbrev pub is_to_fault : CopyFault → Bool
+abbrev pub is_to_fault : StoreFault → Bool
 is_to_fault fault.Protected = true
 is_to_fault (fault.Full need have) = have == 0 || nat_lt have need
 is_to_fault (fault.Short promised read) = nat_lt read promised
@@ -150,7 +150,7 @@ pub record HasRisen {A B K : Type 0} (a : tapes.Meaning A) (b : tapes.Meaning B)
   pub sink : CountGoes (is_sink_broken answer) (k.faults old.sink) (k.faults new.sink)
 
 -- what a mounting gives is this refusal; where it gives a list the refusal is one of these
-abbrev pub MountingRefuses : Mounting → CopyFault →
+abbrev pub MountingRefuses : Mounting → StoreFault →
     (OnceMounted : Header → (words : List ℕ) → (table : List (List ℕ)) → List Entry → Type 0) → Type 0
 MountingRefuses mounting.NotFormatted found OnceMounted = found ≡ fault.NotFormatted
 MountingRefuses (mounting.Foreign why) found OnceMounted = found ≡ foreign_fault why
@@ -159,14 +159,14 @@ MountingRefuses mounting.TableMismatch found OnceMounted = found ≡ fault.Table
 MountingRefuses (mounting.Mounted header words table entries) found OnceMounted = OnceMounted header words table entries
 
 -- a volume of the settled source ends so
-abbrev pub EndsVolume : Cartridge → CopyFault → Header → (words : List ℕ) → (table : List (List ℕ)) → List Entry → Type 0
+abbrev pub EndsVolume : Cartridge → StoreFault → Header → (words : List ℕ) → (table : List (List ℕ)) → List Entry → Type 0
 EndsVolume c found header words table entries =
     (e : Entry) × Contains entries e × ((read : List Act)
     × ((ending : GivingEnd) × Restores (settled table c) words (pieces words e) read ending
     × (giving_status ending ≡ status.From found)))
 
 -- .. of the target: it is protected, or an append to it is refused; the room is that behind its volumes and the copied ones
-abbrev pub EndsAppend : Cartridge → CopyFault → Header → (words : List ℕ) → (table : List (List ℕ)) → List Entry → Type 0
+abbrev pub EndsAppend : Cartridge → StoreFault → Header → (words : List ℕ) → (table : List (List ℕ)) → List Entry → Type 0
 EndsAppend c fault.Protected header words table entries = c.info.protected ≡ true
 EndsAppend c (fault.Full need have) header words table entries =
     (c.info.protected ≡ false) × ((more : List Entry) × (have ≡ room words (entries ++ more)))

@@ -15,13 +15,13 @@ use Rattle.command_spec.specs.Append.{Kept, append_acts, has_promised_room, inpu
 use Rattle.command_spec.specs.Lines.{place_line, count_line}
 use Rattle.command_spec.specs.Outcome.{settling_act}
 use Rattle.command_spec.specs.Restore.{GivingEnd, Piece, Restored, LostIn, MismatchIn, Restores, piece_cells, pieces}
-use Rattle.command_spec.specs.declared.copy_fault.CopyFault.{CopyFault}
+use Rattle.qic_base.specs.declared.store_fault.StoreFault.{StoreFault}
 use Rattle.command_spec.specs.declared.copy_status.CopyStatus.{CopyStatus}
 use Rattle.qic_base.specs.Acts.{Act, steps_of}
 use Rattle.qic_base.specs.Cartridge.{Cartridge}
 use Rattle.qic_base.specs.Step.{Step}
 use Rattle.cartridge_spec.specs.Mounting as mounting
-use Rattle.command_spec.specs.declared.copy_fault.CopyFault.TheVariants as fault
+use Rattle.qic_base.specs.declared.store_fault.StoreFault.TheVariants as fault
 use Rattle.command_spec.specs.declared.copy_status.CopyStatus.TheVariants as status
 
 -- ---- the bytes that the source gives
@@ -176,7 +176,7 @@ Compares from to None acts answer = Copies from (missing from to) to acts answer
 -- ---- the outcome
 
 -- how the mounting of a cartridge is refused
-abbrev pub foreign_fault : HeaderFault → CopyFault
+abbrev pub foreign_fault : HeaderFault → StoreFault
 foreign_fault found = fault.Foreign found.field found.value
 
 -- what is done to the target's cartridge and printed, and how it is answered, by what the mounting of it gives: a protected one

@@ -1,5 +1,5 @@
 -- The plain machine of `script`: its lines, one after the other, over a mounted cartridge, and their replies (this project's own).
-use Rattle.std.specs.Prelude.{flat_map, fold, ℕ, List, codes, ◌++◌, decimal, [], ◌+◌, ◌∷◌, ◌≡◌, true, false, length, Some, ◌⊎◌, None, ◌<◌}
+use Rattle.std.specs.Prelude.{flat_map, fold, ℕ, List, codes, ◌++◌, decimal, [], ◌+◌, ◌∷◌, ◌≡◌, true, false, length, Some, ◌⊎◌, None}
 use Rattle.std.specs.Prelude.{◌≤◌, drop, IsSomeAnd, Option}
 use Rattle.cartridge_spec.specs.Appending.{room, entry_behind}
 use Rattle.cartridge_spec.specs.Header.{Header}

@@ -1,6 +1,6 @@
 //! How a copy ends.
 
-use crate::copy_fault::CopyFault;
+use qic_base::StoreFault;
 
 /// How a copy of one cartridge's volumes to another ended: `from` is the one that is read, `to` the one that is written.
 /// Volumes count from 1.
@@ -17,9 +17,9 @@ pub enum CopyStatus {
     /// The drive that is written to holds none: exit status 31.
     ToAbsent,
     /// The cartridge that is read was refused, or its tape failed: exit status 32.
-    From { fault: CopyFault },
+    From { fault: StoreFault },
     /// The cartridge that is written was refused, or its tape failed: exit status 33.
-    To { fault: CopyFault },
+    To { fault: StoreFault },
     /// The first volume of the target that has another name, date or length than the same volume of the other cartridge,
     /// or that this has not: exit status 34.
     Differs { number: u32 },

@@ -1,7 +1,7 @@
 //! The two forms of a scrub.
 
 /// How far a scrub looks.
-#[derive(Clone, Copy, Debug, Drop, PartialEq, Eq)]
+#[derive(Clone, Copy, Drop)]
 pub enum Depth {
     /// At sectors that can't be read alone: `scrub`.
     Shallow,

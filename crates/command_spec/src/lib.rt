@@ -2,7 +2,6 @@
 //! promises of a run. Definitions alone, with the public types that they name.
 #![tactic(auto)]
 
-mod copy_fault;
 mod copy_status;
 mod depth;
 mod line;
@@ -11,7 +10,6 @@ mod status;
 mod verdict;
 mod words;
 
-pub use copy_fault::CopyFault;
 pub use copy_status::CopyStatus;
 pub use depth::Depth;
 pub use line::Line;

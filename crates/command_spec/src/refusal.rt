@@ -1,7 +1,7 @@
 //! Why a line of a script is refused.
 
 /// Why a line of a script is refused; the script goes on.
-#[derive(Clone, Copy, Debug, PartialEq, Eq)]
+#[derive(Clone, Copy)]
 pub enum Refusal {
     /// The cartridge is write protected.
     Protected,

@@ -1,7 +1,7 @@
 //! What a check tells of a segment.
 
 /// What a check tells of one segment. Sectors of a segment count from 0.
-#[derive(Clone, Copy, Debug, Drop, PartialEq, Eq)]
+#[derive(Clone, Copy, Drop)]
 pub enum Verdict {
     /// It reads, and each of its usable sectors does.
     Sound,

@@ -2,7 +2,7 @@
 
 use crate::cartridges::{BYTES, formatted, put_away, target, two_volumes};
 use crate::runs::{copied, prints, takes};
-use command_spec::CopyFault;
+use qic_base::StoreFault;
 use volume_copy::CopyStatus;
 
 /// What a copy prints that copies both volumes of the source.
@@ -53,7 +53,7 @@ fn a_lost_segment_of_the_source_is_named(rt: HostRuntime) {
     prints(&rt, alloc, &mut to, &["list"], b"volumes 0\n");
     put_away(to);
     put_away(from);
-    let fault = CopyFault::Lost {
+    let fault = StoreFault::Lost {
         segment: 4,
         lost: 4,
     };

@@ -3,8 +3,8 @@
 use crate::cartridges::{BYTES, put_away, target_before, two_volumes};
 use crate::copies::{BOTH, LIST, NEITHER};
 use crate::runs::{copied, prints};
-use command_spec::CopyFault;
 use drive_states::Unit;
+use qic_base::StoreFault;
 use qic_mem::{MemTape, Outcome};
 use std::alloc::Global;
 use std::process::Abort;
@@ -78,7 +78,7 @@ fn goes_on(
     let mut to = target_before(rt, alloc, call, outcome);
     let (first, from) = copied(rt, alloc, from, &mut to, printed_before(call));
     let (second, from) = copied(rt, alloc, from, &mut to, printed_again(call, outcome));
-    let fault = CopyFault::Tape;
+    let fault = StoreFault::Tape;
     let wanted = [(CopyStatus::To { fault }, true), (CopyStatus::Done, true)];
     assert_eq!(rt; [first, second], wanted, "call {call}, {outcome:?}");
     prints(rt, alloc, &mut to, &["list"], LIST);
@@ -134,7 +134,7 @@ fn a_copy_has_no_more_calls(rt: HostRuntime) {
     let (third, from) = copied(&rt, alloc, from, &mut to, NEITHER);
     put_away(to);
     put_away(from);
-    let fault = CopyFault::Tape;
+    let fault = StoreFault::Tape;
     let done = (CopyStatus::Done, true);
     assert_eq!(rt;
         [first, second, third],

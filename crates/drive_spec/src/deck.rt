@@ -5,7 +5,7 @@ use qic117_commands::Mode;
 
 /// Whether the tape stands, streams past the head, of which it has yet to reach the sectors from `next` on, 0 to 32,
 /// or moves to a place for so many more gaps.
-#[derive(Clone, Copy, Debug, PartialEq, Eq)]
+#[derive(Clone, Copy)]
 pub enum Motion {
     Stopped,
     Streaming { next: u8 },
@@ -13,7 +13,7 @@ pub enum Motion {
 }
 
 /// The deck of a drive.
-#[derive(Clone, Copy, Debug)]
+#[derive(Clone, Copy)]
 pub struct Deck {
     /// The length and the marks of the cartridge; None where none is present.
     pub cartridge: Option<TapeInfo>,

@@ -4,7 +4,7 @@ use qic117_commands::{Command, Shifter};
 
 /// A parameter awaited: the command that awaits it, the values that came, 0 to 2, and the number that they make so
 /// far, the first of them lowest (QIC-117).
-#[derive(Clone, Copy, Debug)]
+#[derive(Clone, Copy)]
 pub struct Parameter {
     pub command: Command,
     pub taken: u8,
@@ -12,7 +12,7 @@ pub struct Parameter {
 }
 
 /// What the next train belongs to: a command of its own, a report that shows its levels, or a parameter.
-#[derive(Debug, Drop)]
+#[derive(Drop)]
 pub enum UnderWay {
     Nothing,
     Report(Shifter),

@@ -1,6 +1,6 @@
 -- What a drive in whatever state does.
-use Rattle.std.proofs.Common.{◌≡◌, ℕ, Bool, true, false, List, [], ◌∷◌, Some, None, is_none, Result, Ok, Err, if◌then◌else◌, refl, sym}
-use Rattle.std.proofs.Common.{subst}
+use Rattle.std.proofs.Common.{◌≡◌, ℕ, Bool, true, false, List, [], ◌∷◌, Option, Some, None, is_none, Result, Ok, Err, if◌then◌else◌}
+use Rattle.std.proofs.Common.{refl, sym, subst}
 use Rattle.qic_base.specs.Step.{Step}
 use Rattle.qic_base.specs.Tape.{Meaning, Done}
 use Rattle.qic_base.specs.TapeCalls.{Does}
@@ -8,6 +8,7 @@ use Rattle.qic_base.proofs.Steps.{Done-nothing, Done-Done, Done-Broke}
 use Rattle.qic117_commands.specs.Commands.{command_at, commands}
 use Rattle.qic117_commands.specs.declared.command.Command.{Command}
 use Rattle.qic117_commands.specs.declared.command.Command.TheVariants.{Reset, SkipReverse, SkipForward}
+use Rattle.qic117_commands.specs.declared.error_code.ErrorCode.{ErrorCode}
 use Rattle.qic117_commands.specs.Refusals.{waits_for_seek, illegal_in_primary, illegal_in_format, illegal_in_verify}
 use Rattle.drive_spec.specs.Terms.{refusal_of, steps_once_ticked}
 use Rattle.drive_spec.specs.Record.{Record}
@@ -24,6 +25,10 @@ use Rattle.drive_states.proofs.Obeying.{refused_in_seek, legal_in_primary, legal
 pub Done-same : {T : Type 0} (m : Meaning T) (a b : T) (steps : List Step) → steps ≡ [] → b ≡ a → Done m a b steps
 Done-same {T} m a b steps none same =
     subst (λ (ss : List Step). Done m a b ss) (sym none) (subst (λ (x : T). Done m a x []) (sym same) (Done-nothing m a))
+
+-- no row refuses a command, or one does
+pub taken_and_refused : (refusal : Option ErrorCode) (code : ErrorCode) → refusal ≡ None → refusal ≡ Some code → ⊥
+taken_and_refused refusal code taken refused = cc
 
 -- a command that no row refuses is one of the drive's state
 pub refused_elsewhere : {T : Type 0} (x : AnyDrive T) (c : Command) → IsIn (state_of x) (drive_of x).deck → waits_for_seek c ≡ true →

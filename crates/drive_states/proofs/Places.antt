@@ -1,14 +1,16 @@
 -- Which typed state a command leads to.
 use Rattle.std.proofs.Common.{◌≡◌, ℕ, ◌+◌, ◌*◌, ◌<◌, ◌≤◌, Bool, true, false, ◌&&◌, List, Option, Some, None, is_some, IsSomeAnd}
-use Rattle.std.proofs.Common.{if◌then◌else◌, nat_lt, refl, sym, ◌∙◌, arith, subst}
+use Rattle.std.proofs.Common.{IfSome, IfNone, if◌then◌else◌, nat_lt, nat_le, ap, refl, sym, ◌∙◌, arith, subst}
 use Rattle.std.proofs.lemmas.Bool.Decides.{nat_tests}
 use Rattle.std.proofs.lemmas.Nat.{mul-add-lt}
+use Rattle.std.specs.Bool.{then_some}
 use Rattle.std.specs.Option.{option_map_or}
 use Rattle.qic_base.specs.Cartridge.{IsPlace}
 use Rattle.qic_base.specs.declared.tape.TapeInfo.{TapeInfo}
 use Rattle.qic_base.specs.Tape.{Meaning}
-use Rattle.qic117_commands.specs.declared.command.Command.TheVariants.{LogicalForward}
+use Rattle.qic117_commands.specs.declared.command.Command.TheVariants.{LogicalForward, SeekLoadPoint}
 use Rattle.qic117_commands.specs.Refusals.{needs_cartridge}
+use Rattle.qic117_commands.specs.Views.{is_primary}
 use Rattle.tape_geometry.specs.declared.geometry.FloppyAddr.{FloppyAddr}
 use Rattle.tape_geometry.specs.Geometry.{HasAddress}
 use Rattle.drive_spec.specs.declared.deck.Deck.{Deck}
@@ -16,10 +18,10 @@ use Rattle.drive_spec.specs.declared.deck.Motion.{Motion}
 use Rattle.drive_spec.specs.declared.deck.Motion.TheVariants.{Stopped, Streaming, Seeking}
 use Rattle.drive_spec.specs.Deck.{segments_per_track, limit, is_stopped, is_streaming}
 use Rattle.drive_spec.specs.Terms.{refusal_of, run_on}
-use Rattle.drive_spec.specs.Effects.{accepted, ticked}
-use Rattle.drive_states.specs.Typed.{is_seeking, TypedState, IsIn, moved, seeking}
-use Rattle.drive_states.specs.Reach.{passed, StreamsTo, segment_of, Answer, Finds, Writes}
-use Rattle.drive_states.specs.Sound.{HasLength, IsSound}
+use Rattle.drive_spec.specs.Effects.{accepted, given, ticked}
+use Rattle.drive_states.specs.Typed.{is_seeking, TypedState, IsIn, moved, at_start, seeking, skip_command}
+use Rattle.drive_states.specs.Reach.{passed, StreamsTo, segment_of, HasAddressIn, HasNoAddressIn, Answer, Finds, Writes}
+use Rattle.drive_states.specs.Sound.{HasLength, IsParameter, IsSound}
 use Rattle.drive_states.specs.Unit.{Knows, DeckAndTape}
 use Rattle.drive_states.proofs.Bounds.{with_cartridge, before_limit, limit_within, IsSound-passed}
 
@@ -144,3 +146,49 @@ IsIn-reached p d index here under = record {
   at_load_point = here.at_load_point;
   seeks = sym (streams_still d.motion (streams_to d.motion index under)) ∙ here.seeks;
 }
+
+-- a drive that knows of no cartridge has no address
+pub unknown_length : (c : Option TapeInfo) (segment index : ℕ) (addr : FloppyAddr) → c ≡ None →
+    HasAddress (option_map_or (λ i. i.segments_per_track) c 0) segment index addr → ⊥
+unknown_length None segment index addr gone has = let none = has.on_tape in omega arith
+unknown_length (Some info) segment index addr gone has = cc
+
+-- nor has one whose tape doesn't stream
+pub stands_there : (m : Motion) (index : ℕ) → ((next : ℕ) → m ≡ Streaming next → ⊥) → StreamsTo m index → ⊥
+stands_there Stopped index stands under = under
+stands_there (Streaming next) index stands under = stands next refl
+stands_there (Seeking left) index stands under = under
+
+-- a skip seeks, past the load point
+pub IsIn-skipped : (p q : TypedState) (d : Deck) (forward : Bool) (count : ℕ) → IsIn p d → q ≡ moved p →
+    IsIn (seeking q) (given (skip_command forward) count d)
+IsIn-skipped p q d true count here left = rw left record { mode = here.mode; at_load_point = refl; seeks = refl }
+IsIn-skipped p q d false count here left = rw left record { mode = here.mode; at_load_point = refl; seeks = refl }
+
+-- the parameter of a skip is a byte
+pub IsParameter-skip : (forward : Bool) (count : ℕ) → count < 256 → IsParameter (skip_command forward) count
+IsParameter-skip true count fits = fits
+IsParameter-skip false count fits = fits
+
+-- what seeks the start of track 0 seeks the load point in Primary mode
+pub IsIn-home : (p q : TypedState) (d : Deck) → IsIn p d → q ≡ at_start p → IsIn (seeking q) (accepted SeekLoadPoint d)
+IsIn-home p q d here home = rw home record { mode = here.mode; at_load_point = ap is_primary here.mode; seeks = refl }
+
+-- a sector under the head that is not passed is reached, ..
+pub reached_from : (d : Deck) (addr : FloppyAddr) (next s i : ℕ) (b : Bool) → nat_le next i ≡ b → d.motion ≡ Streaming next →
+    s ≡ segment_of d → HasAddress (segments_per_track d) s i addr →
+    IfSome {T = ℕ × ℕ} (then_some b (s, i)) (λ place. HasAddressIn d addr place.0 place.1)
+reached_from d addr next s i true e streams here address =
+    let ahead : next ≤ i = grind (arith, nat_tests) in
+    record { under = record { streams = rw streams ahead; here = here }; address = address }
+reached_from d addr next s i false e streams here address = tt
+
+-- .. and one that it passed is not
+pub passed_already : (d : Deck) (addr : FloppyAddr) (next s i : ℕ) (b : Bool) → nat_le next i ≡ b → d.motion ≡ Streaming next →
+    HasAddress (segments_per_track d) s i addr → IfNone {T = ℕ × ℕ} (then_some b (s, i)) (HasNoAddressIn d addr)
+passed_already d addr next s i true e streams address = tt
+passed_already d addr next s i false e streams address = λ segment index reaches.
+    let behind : i < next = grind (arith, nat_tests) in
+    let ahead : next ≤ index = rw streams at reaches.under.streams in
+    let same : i ≡ index = (one_place _ _ _ _ _ _ address reaches.address).1 in
+    omega arith

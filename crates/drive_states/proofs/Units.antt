@@ -20,9 +20,8 @@ use Rattle.drive_spec.specs.Record.{Record}
 use Rattle.drive_spec.specs.Row.{after_gap, moved_on, pulsed_row}
 use Rattle.drive_spec.specs.Steps.{gap_steps, train_changes}
 use Rattle.drive_states.specs.declared.fault.FdcFault.TheVariants.{NoAddress}
-use Rattle.drive_states.specs.declared.fault.HandFault.{HandFault}
-use Rattle.drive_states.specs.declared.fault.HandFault.TheVariants.{Tape, NotBlank}
-use Rattle.drive_states.specs.Hand.{Wears, Spoils, IsPlaced, IsNotReached}
+use Rattle.drive_states.specs.declared.fault.HandFault.TheVariants.{NotBlank}
+use Rattle.drive_states.specs.Hand.{HandAnswer, Wears, Spoils, IsPlaced, IsNotReached}
 use Rattle.drive_states.specs.Reach.{StreamsTo, ReachesNone, IsFormatting, Answer}
 use Rattle.drive_states.specs.Unreferenced.{without_reference}
 use Rattle.drive_states.specs.Sound.{IsSound, IsSoundRecord}
@@ -96,20 +95,19 @@ IsSoundUnit-formatted m old new result s unreached moved stayed known = by_motio
         record { drive = subst IsSoundRecord (sym (unreached none)) s; known = known }
 
 -- what a call answers whose tape answered that
-abbrev pub IsAnswerOf : Result (Unit {0}) TapeFailed → Result (Unit {0}) HandFault → Type 0
-IsAnswerOf (Ok done) result = result ≡ Ok done
-IsAnswerOf (Err failed) result = result ≡ Err Tape
+abbrev pub IsAnswerOf : Result (Unit {0}) TapeFailed → HandAnswer (Unit {0}) → Type 0
+IsAnswerOf (Ok done) result = result ≡ Ok (Ok done)
+IsAnswerOf (Err failed) result = result ≡ Err failed
 
 -- a call that came to its sector
-pub reached : (tape : Result (Unit {0}) TapeFailed) (result : Result (Unit {0}) HandFault) → IsAnswerOf tape result →
-    ¬ (IsNotReached result)
+pub reached : (tape : Result (Unit {0}) TapeFailed) (result : HandAnswer (Unit {0})) → IsAnswerOf tape result → ¬ (IsNotReached result)
 reached (Ok done) result e = λ none. grind arith
 reached (Err failed) result e = λ none. grind arith
 
 -- what a call that wears a sector came to, said of its place
 pub Wears-at : {T : Type 0} (m : Meaning T) (old new : UnitView T) (c : Option TapeInfo) (segment sector index : ℕ)
     (tape : Result (Unit {0}) TapeFailed)
-    (result : Result (Unit {0}) HandFault) → IsPlaced c segment sector (Ok index) →
+    (result : HandAnswer (Unit {0})) → IsPlaced c segment sector (Ok index) →
     Does m old.tape new.tape (Wear segment index ∷ []) tape →
     IsAnswerOf tape result → IfSome c (λ info. IsPlace info.segments_per_track segment sector → Wears m old new segment sector result)
 Wears-at m old new None segment sector index tape result placed did e = tt
@@ -117,13 +115,13 @@ Wears-at m old new (Some info) segment sector index (Ok done) result placed did 
 Wears-at m old new (Some info) segment sector index (Err failed) result placed did e = λ place. rw (e, ← placed.0) did
 
 -- the same of a call that tells whether the sector is a defect now
-abbrev pub IsSpoilAnswerOf : Result Bool TapeFailed → Result (Unit {0}) HandFault → Type 0
-IsSpoilAnswerOf (Ok true) result = result ≡ Ok tt
-IsSpoilAnswerOf (Ok false) result = result ≡ Err NotBlank
-IsSpoilAnswerOf (Err failed) result = result ≡ Err Tape
+abbrev pub IsSpoilAnswerOf : Result Bool TapeFailed → HandAnswer (Unit {0}) → Type 0
+IsSpoilAnswerOf (Ok true) result = result ≡ Ok (Ok tt)
+IsSpoilAnswerOf (Ok false) result = result ≡ Ok (Err NotBlank)
+IsSpoilAnswerOf (Err failed) result = result ≡ Err failed
 
 -- such a call, too, came to its sector
-pub reached_to_spoil : (tape : Result Bool TapeFailed) (result : Result (Unit {0}) HandFault) → IsSpoilAnswerOf tape result →
+pub reached_to_spoil : (tape : Result Bool TapeFailed) (result : HandAnswer (Unit {0})) → IsSpoilAnswerOf tape result →
     ¬ (IsNotReached result)
 reached_to_spoil (Ok true) result e = λ none. grind arith
 reached_to_spoil (Ok false) result e = λ none. grind arith
@@ -132,7 +130,7 @@ reached_to_spoil (Err failed) result e = λ none. grind arith
 -- what a call that spoils a sector came to, said of its place
 pub Spoils-at : {T : Type 0} (m : Meaning T) (old new : UnitView T) (c : Option TapeInfo) (segment sector index : ℕ)
     (tape : Result Bool TapeFailed)
-    (result : Result (Unit {0}) HandFault) → IsPlaced c segment sector (Ok index) →
+    (result : HandAnswer (Unit {0})) → IsPlaced c segment sector (Ok index) →
     Does m old.tape new.tape (Spoil segment index ∷ []) tape →
     IfOk tape (λ answer. Tells m old.tape (λ c. answer ≡ spoil_answer (view_at c segment index))) → IsSpoilAnswerOf tape result →
     IfSome c (λ info. IsPlace info.segments_per_track segment sector → Spoils m old new segment sector result)

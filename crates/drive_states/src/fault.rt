@@ -13,15 +13,14 @@ pub enum FdcFault {
     Unreadable,
 }
 
-/// Why what a person did to the cartridge came to nothing. The first that holds is answered.
+/// Why what a person would do to the cartridge can't be done: the first that holds is answered. A call that the tape failed
+/// in answers that instead, as a sector call does.
 #[derive(Clone, Copy, Debug, PartialEq, Eq)]
 pub enum HandFault {
     /// The drive knows of no cartridge.
     NoCartridge,
     /// The cartridge has no such sector.
     BadPlace,
-    /// The tape failed.
-    Tape,
     /// The sector was formatted, so it is no defect.
     NotBlank,
 }

@@ -15,7 +15,6 @@ use crate::any_drive::AnyDrive;
 use crate::deck::power_on_deck;
 use crate::dialogue::Dialogue;
 use crate::drive::Drive;
-use crate::fault::HandFault;
 use core::mem::replace_with;
 use drive_spec::UnderWay;
 use qic_base::{Tape, TapeFailed};
@@ -125,31 +124,26 @@ impl<T: Tape> Dialogue<T> {
     }
 
     /// Puts in a new cartridge, never formatted, with neither mark, as `insert` does.
-    pub fn load_blank(&mut self, segments_per_track: u16) -> Result<(), HandFault>
+    pub fn load_blank(&mut self, segments_per_track: u16) -> Result<(), TapeFailed>
         requires { IsLength segments_per_track }
         ensures { Replaces T.means (unit_of self.old) (unit_of self.new)
             (Renew segments_per_track) result }
     {
         self.rest();
-        match replace_with(&mut self.drive, segments_per_track, renewed) {
-            Ok(()) => Ok(()),
-            Err(TapeFailed) => Err(HandFault::Tape),
-        }
+        replace_with(&mut self.drive, segments_per_track, renewed)
     }
 
     /// Sets or clears the write protect mark of a cartridge that the drive knows of, and puts it in again.
-    pub fn protect(&mut self, on: bool) -> Result<(), HandFault>
+    pub fn protect(&mut self, on: bool) -> Result<(), TapeFailed>
         requires { IsSome (T.means.size (unit_of self.old).tape) }
         ensures { Replaces T.means (unit_of self.old) (unit_of self.new) (SetProtected on) result }
     {
         self.rest();
-        match replace_with(&mut self.drive, on, protected) {
-            Ok(()) => Ok(()),
-            Err(TapeFailed) => Err(HandFault::Tape),
-        }
+        replace_with(&mut self.drive, on, protected)
     }
+
     /// Has the cartridge that the drive knows of kept in the newest layout.
-    pub fn upgrade(&mut self) -> Result<u8, HandFault>
+    pub fn upgrade(&mut self) -> Result<u8, TapeFailed>
         requires { IsSome (T.means.size (unit_of self.old).tape) }
         ensures { Upgrades T.means (unit_of self.old) (unit_of self.new) result }
     {
@@ -157,7 +151,7 @@ impl<T: Tape> Dialogue<T> {
             Ok(version) => Ok(version),
             Err(TapeFailed) => {
                 self.rest();
-                Err(HandFault::Tape)
+                Err(TapeFailed)
             }
         }
     }

@@ -106,11 +106,7 @@ impl<M: Skips, T: Tape> Drive<M, T> {
         ensures refused { IfErr result (λ refused.
             Refuses self refused.drive (skip_command forward) refused.code) }
     {
-        let command = if forward {
-            Command::SkipForward
-        } else {
-            Command::SkipReverse
-        };
+        let command = skip_command(forward);
         if let Some(code) = refusal(&self.deck, command) {
             return Err(Refused { drive: self, code });
         }
@@ -213,5 +209,15 @@ impl<M: Standing, T: Tape> Drive<Seeking<M>, T> {
         } else {
             Ticked::Still(Drive::of(deck, tape))
         }
+    }
+}
+
+fn skip_command(forward: bool) -> Command
+    ensures { result ≡ skip_command forward }
+{
+    if forward {
+        Command::SkipForward
+    } else {
+        Command::SkipReverse
     }
 }

@@ -9,7 +9,7 @@ ghost use Rattle.drive_spec.specs.Terms.{is_protected};
 ghost use Rattle.drive_spec.specs.Record.{power_on};
 ghost use Rattle.drive_spec.specs.Row.{after_gap, moved_on};
 ghost use Rattle.drive_spec.specs.Steps.{gap_steps};
-ghost use Rattle.drive_states.specs.Hand.{Replaces, Wears, Spoils, Upgrades, IsPlaced, IsNotReached};
+ghost use Rattle.drive_states.specs.Hand.{Replaces, Wears, Spoils, Upgrades, IsPlaced, IsNotReached, IsCarriedOut};
 ghost use Rattle.drive_states.specs.Reach.{reads_in, Reaches, ReachesNone, IsFormatting, Finds, Writes, Formats};
 ghost use Rattle.drive_states.specs.Reach.{FindsSectors, WritesSectors};
 ghost use Rattle.drive_states.specs.Unit.{stepped, IsInserted, IsSoundUnit, held};
@@ -215,7 +215,7 @@ impl<T: Tape> Unit<T> {
     }
 
     /// Puts in a new cartridge, never formatted, with neither mark, as `insert` does.
-    pub fn load_blank(&mut self, segments_per_track: u16) -> Result<(), HandFault>
+    pub fn load_blank(&mut self, segments_per_track: u16) -> Result<(), TapeFailed>
         requires { IsLength segments_per_track }
         ensures { Replaces T.means self.old self.new (Renew segments_per_track) result }
     {
@@ -225,25 +225,25 @@ impl<T: Tape> Unit<T> {
     }
 
     /// Sets or clears the write protect mark, and puts the cartridge in again as `insert` does.
-    pub fn protect(&mut self, on: bool) -> Result<(), HandFault>
+    pub fn protect(&mut self, on: bool) -> Result<Result<(), HandFault>, TapeFailed>
         ensures absent { IfNone self.old.drive.deck.cartridge
-            ((result ≡ Err HandFault.NoCartridge) × (self.new ≡ self.old)) }
+            ((result ≡ Ok (Err HandFault.NoCartridge)) × (self.new ≡ self.old)) }
         ensures present { IfSome self.old.drive.deck.cartridge (λ info.
-            Replaces T.means self.old self.new (SetProtected on) result) }
+            IsCarriedOut (Replaces T.means self.old self.new (SetProtected on)) result) }
     {
         if self.dialogue.drive.deck().cartridge.is_none() {
-            return Err(HandFault::NoCartridge);
+            return Ok(Err(HandFault::NoCartridge));
         }
         let answer = self.dialogue.protect(on);
         self.dialogue.drive.reveal();
-        answer
+        Ok(Ok(answer?))
     }
 
     /// Makes a readable sector unreadable until it is written again.
-    pub fn wear(&mut self, segment: u32, sector: u32) -> Result<(), HandFault>
-        ensures absent { IfNone self.old.drive.deck.cartridge (result ≡ Err HandFault.NoCartridge) }
+    pub fn wear(&mut self, segment: u32, sector: u32) -> Result<Result<(), HandFault>, TapeFailed>
+        ensures absent { IfNone self.old.drive.deck.cartridge (result ≡ Ok (Err HandFault.NoCartridge)) }
         ensures misplaced { IfSome self.old.drive.deck.cartridge (λ info.
-            ¬ (IsPlace info.segments_per_track segment sector) → result ≡ Err HandFault.BadPlace) }
+            ¬ (IsPlace info.segments_per_track segment sector) → result ≡ Ok (Err HandFault.BadPlace)) }
         ensures placed { IfSome self.old.drive.deck.cartridge (λ info.
             IsPlace info.segments_per_track segment sector →
             Wears T.means self.old self.new segment sector result) }
@@ -251,18 +251,21 @@ impl<T: Tape> Unit<T> {
         ensures drive { self.new.drive ≡ self.old.drive }
         ensures size { T.means.size self.new.tape ≡ T.means.size self.old.tape }
     {
-        let sector = self.place(segment, sector)?;
+        let sector = match self.place(segment, sector) {
+            Ok(sector) => sector,
+            Err(fault) => return Ok(Err(fault)),
+        };
         match self.dialogue.drive.wear(segment, sector) {
-            Ok(()) => Ok(()),
-            Err(TapeFailed) => Err(HandFault::Tape),
+            Ok(()) => Ok(Ok(())),
+            Err(failed) => Err(failed),
         }
     }
 
     /// Makes a defect of a sector that was never formatted.
-    pub fn spoil(&mut self, segment: u32, sector: u32) -> Result<(), HandFault>
-        ensures absent { IfNone self.old.drive.deck.cartridge (result ≡ Err HandFault.NoCartridge) }
+    pub fn spoil(&mut self, segment: u32, sector: u32) -> Result<Result<(), HandFault>, TapeFailed>
+        ensures absent { IfNone self.old.drive.deck.cartridge (result ≡ Ok (Err HandFault.NoCartridge)) }
         ensures misplaced { IfSome self.old.drive.deck.cartridge (λ info.
-            ¬ (IsPlace info.segments_per_track segment sector) → result ≡ Err HandFault.BadPlace) }
+            ¬ (IsPlace info.segments_per_track segment sector) → result ≡ Ok (Err HandFault.BadPlace)) }
         ensures placed { IfSome self.old.drive.deck.cartridge (λ info.
             IsPlace info.segments_per_track segment sector →
             Spoils T.means self.old self.new segment sector result) }
@@ -270,28 +273,31 @@ impl<T: Tape> Unit<T> {
         ensures drive { self.new.drive ≡ self.old.drive }
         ensures size { T.means.size self.new.tape ≡ T.means.size self.old.tape }
     {
-        let sector = self.place(segment, sector)?;
+        let sector = match self.place(segment, sector) {
+            Ok(sector) => sector,
+            Err(fault) => return Ok(Err(fault)),
+        };
         match self.dialogue.drive.spoil(segment, sector) {
-            Ok(true) => Ok(()),
-            Ok(false) => Err(HandFault::NotBlank),
-            Err(TapeFailed) => Err(HandFault::Tape),
+            Ok(true) => Ok(Ok(())),
+            Ok(false) => Ok(Err(HandFault::NotBlank)),
+            Err(failed) => Err(failed),
         }
     }
 
     /// Has the cartridge kept in the newest layout. Answers the version of the layout before, 1 or 2. After a failure the
     /// drive knows of none.
-    pub fn upgrade(&mut self) -> Result<u8, HandFault>
+    pub fn upgrade(&mut self) -> Result<Result<u8, HandFault>, TapeFailed>
         ensures absent { IfNone self.old.drive.deck.cartridge
-            ((result ≡ Err HandFault.NoCartridge) × (self.new ≡ self.old)) }
+            ((result ≡ Ok (Err HandFault.NoCartridge)) × (self.new ≡ self.old)) }
         ensures present { IfSome self.old.drive.deck.cartridge (λ info.
-            Upgrades T.means self.old self.new result) }
+            IsCarriedOut (Upgrades T.means self.old self.new) result) }
     {
         if self.dialogue.drive.deck().cartridge.is_none() {
-            return Err(HandFault::NoCartridge);
+            return Ok(Err(HandFault::NoCartridge));
         }
         let answer = self.dialogue.upgrade();
         self.dialogue.drive.reveal();
-        answer
+        Ok(Ok(answer?))
     }
 
     /// The index of a sector that the cartridge has.

@@ -9,7 +9,6 @@ ghost use Rattle.erasure_solve.specs.Lost.{lost_count, IsOnlyBlock};
 
 pub use plan::Plan;
 use qic_base::{LostSet, Sector};
-use thiserror::Error;
 
 mod coefficients;
 pub mod laws;
@@ -17,13 +16,11 @@ mod plan;
 mod values;
 
 /// Why the lost sectors of a segment cannot be found.
-#[derive(Clone, Copy, Debug, Drop, PartialEq, Eq, Error)]
+#[derive(Clone, Copy, Debug, Drop, PartialEq, Eq)]
 pub enum SolveFault {
     /// More than three places are lost: their number.
-    #[error("{lost} sectors are lost, and at most three can be found")]
     TooMany { lost: u8 },
     /// No code block agrees with the sectors at the other places.
-    #[error("no code block agrees with the sectors that are not lost")]
     Mismatch,
 }
 

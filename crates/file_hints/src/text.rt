@@ -8,7 +8,7 @@ use itoa::Buffer;
 use std::marker::Model;
 
 /// A line of text, of at most 512 bytes. Contracts see its bytes.
-#[derive(Debug, Drop)]
+#[derive(Drop)]
 pub struct HintLine {
     bytes: [u8; 512],
     len: usize,

@@ -1,10 +1,14 @@
 -- What stays over the steps of formatting.
-use Rattle.std.proofs.Common.{◌≡◌, ap, ◌∙◌, Result, Ok, Err, IsOk, IsErr, refl}
+use Rattle.std.proofs.Common.{◌≡◌, ℕ, ◌*◌, ◌<◌, true, arith, ap, subst, sym, ◌∙◌, Option, Result, Ok, Err, IsOk, IsErr, refl}
+use Rattle.std.specs.Option.{option_map_or}
 use Rattle.qic_base.specs.Tape.{Meaning}
+use Rattle.qic_base.specs.declared.tape.TapeInfo.{TapeInfo}
 use Rattle.drive_states.specs.Unit.{UnitView}
 use Rattle.host_driver.specs.declared.host.Host.{Host}
-use Rattle.host_driver.specs.Calls.{IsReady, Keeps}
-use Rattle.host_driver.proofs.Keeping.{agrees_tape}
+use Rattle.host_driver.specs.Calls.{IsReady, MayWrite, Keeps}
+use Rattle.host_driver.proofs.Keeping.{agrees_tape, cartridge_kept, may_write_kept}
+use Rattle.segment_io.specs.Calls.{CanWrite}
+use Rattle.segment_io.proofs.Going.{front_segment}
 use Rattle.formatter.specs.declared.fault.FormatFault.{FormatFault}
 use Rattle.formatter.specs.Calls.{CanGo, KeepsCartridge, Leaves}
 use Rattle.formatter.proofs.Places.{mark_kept}
@@ -43,6 +47,27 @@ kept_both first next = record {
 pub go_kept : {T : Type 0} {m : Meaning T} {h k : Host} {a b : UnitView T} → CanGo m h a → IsReady m k b →
     b.drive.deck.cartridge ≡ a.drive.deck.cartridge → CanGo m k b
 go_kept {a = a} {b = b} go ready same = record { ready = ready; referenced = mark_kept a.drive.deck b.drive.deck same go.referenced }
+
+-- ---- a header copy written
+
+pub can_write_copy : {T : Type 0} {m : Meaning T} {h : Host} {u : UnitView T} (copy : ℕ) → CanGo m h u → MayWrite u.drive.deck → copy < 2 →
+    CanWrite m h u copy 4294967295
+can_write_copy copy go may front =
+    record { ready = go.ready; segment = front_segment copy go.ready.fits go.referenced (omega arith); writable = may }
+
+-- and written again
+pub can_write_again : {T : Type 0} {m : Meaning T} {h k : Host} {a b : UnitView T} (copy mask : ℕ) → CanWrite m h a copy mask →
+    Keeps m k a b → CanWrite m k b copy mask
+can_write_again {a = a} {b = b} copy mask can keeps = record {
+  ready = keeps.ready;
+  segment = record {
+    referenced = cartridge_kept (λ info. info.referenced) true a.drive.deck b.drive.deck keeps.same can.segment.referenced;
+    on_tape = subst (λ (o : Option TapeInfo). copy < 28 * option_map_or (λ (info : TapeInfo). info.segments_per_track) o 0)
+        (sym keeps.same.cartridge) can.segment.on_tape;
+    carries = can.segment.carries;
+  };
+  writable = may_write_kept a.drive.deck b.drive.deck keeps.same can.writable;
+}
 
 -- ---- what is left
 

@@ -6,7 +6,7 @@ ghost use Rattle.formatter.specs.declared.fault.FormatFault.TheVariants.{Tape as
 use qic_base::TapeFailed;
 
 /// Why a formatting came to nothing.
-#[derive(Clone, Copy, Debug, Drop, PartialEq, Eq)]
+#[derive(Clone, Copy, Drop)]
 pub enum FormatFault {
     /// The cartridge is write protected; nothing was written.
     Protected,

@@ -18,7 +18,7 @@ use qic_base::{Name, Tape};
 use segment_io::Workspace;
 
 /// What a formatting found.
-#[derive(Clone, Copy, Debug, PartialEq, Eq)]
+#[derive(Clone, Copy)]
 pub struct FormatReport {
     /// The segments of the cartridge.
     pub segments: u32,

@@ -1,14 +1,15 @@
 //! The header of a fresh cartridge, and its two copies.
 
-ghost use Rattle.std.specs.Prelude.{◌≡◌, ◌<◌, ◌*◌, false, length, take};
+ghost use Rattle.std.specs.Prelude.{◌≡◌, ◌*◌, false, length, take};
 ghost use Rattle.qic_base.specs.TapeCalls.{Does};
 ghost use Rattle.drive_spec.specs.Deck.{segments_per_track};
 ghost use Rattle.drive_spec.specs.Terms.{is_protected};
-ghost use Rattle.host_driver.specs.Calls.{MayWrite, Keeps};
+ghost use Rattle.host_driver.specs.Calls.{Keeps};
 ghost use Rattle.cartridge_spec.specs.Formatting.{copy_writes};
-ghost use Rattle.cartridge_spec.specs.Says.{with_parity};
+ghost use Rattle.cartridge_spec.specs.Says.{whole_mask, with_parity};
 ghost use Rattle.cartridge_laws.specs.HeaderTerms.{IsFreshArea};
-ghost use Rattle.formatter.specs.Calls.{CanGo, IsAtStop, KeepsCartridge};
+ghost use Rattle.segment_io.specs.Calls.{CanWrite};
+ghost use Rattle.formatter.specs.Calls.{IsAtStop, KeepsCartridge};
 ghost use Rattle.formatter.specs.Formats.{WritesHeader};
 
 use bad_sector_map::BadMap;
@@ -70,9 +71,7 @@ fn write_copy<T: Tape>(
     copy: u32,
     work: &Workspace,
 ) -> Result<(), TapeFailed>
-    requires ready { CanGo T.means host.old unit.old }
-    requires writable { MayWrite unit.old.drive.deck }
-    requires copy { copy < 2 }
+    requires can { CanWrite T.means host.old unit.old copy whole_mask }
     requires room { length work.now ≡ 32 }
     ensures did { Does T.means unit.old.tape unit.new.tape (copy_writes copy work.now) result }
     ensures keeps { Keeps T.means host.new unit.old unit.new }

@@ -1,12 +1,12 @@
 -- How a change by hand ends, by what the drive's call answered.
-use Rattle.std.proofs.Common.{◌≡◌, ◌≢◌, ◌⊎◌, ℕ, Option, Some, None, IfSome, IfNone, Result, Err, refl, subst, inl, inr, true, not}
+use Rattle.std.proofs.Common.{◌≡◌, ◌≢◌, ◌⊎◌, ℕ, Option, Some, None, IfSome, IfNone, Ok, Err, refl, subst, inl, inr, true, not}
 use Rattle.qic_base.specs.Cartridge.{IsLength, IsPlace}
 use Rattle.qic_base.specs.declared.tape.TapeInfo.{TapeInfo}
-use Rattle.drive_states.specs.declared.fault.HandFault.{HandFault}
 use Rattle.drive_states.specs.declared.fault.HandFault.TheVariants.{NoCartridge, BadPlace}
 use Rattle.command_laws.proofs.CommandNumbers.{place_there, place_missing}
 use Rattle.command_laws.proofs.ScriptPlaces.{place_or_not}
 use Rattle.command_spec.specs.Numbers.{is_on_each, is_sector}
+use Rattle.drive_states.specs.Hand.{HandAnswer}
 use Rattle.drive_states.specs.Sound.{HasLength}
 
 -- the drive knows a cartridge, and it has the sector
@@ -22,12 +22,12 @@ pub record Misplaced (cartridge : Option TapeInfo) (segment sector : ℕ) : Type
   pub none : ¬ (IsPlace info.segments_per_track segment sector)
 
 -- a call for a sector that was not refused came to it
-pub reached : (cartridge : Option TapeInfo) (segment sector : ℕ) (result : Result (Unit {0}) HandFault)
-    (P : Result (Unit {0}) HandFault → Type 0) →
-    IfNone cartridge (result ≡ Err NoCartridge) →
-    IfSome cartridge (λ info. ¬ (IsPlace info.segments_per_track segment sector) → result ≡ Err BadPlace) →
+pub reached : (cartridge : Option TapeInfo) (segment sector : ℕ) (result : HandAnswer (Unit {0}))
+    (P : HandAnswer (Unit {0}) → Type 0) →
+    IfNone cartridge (result ≡ Ok (Err NoCartridge)) →
+    IfSome cartridge (λ info. ¬ (IsPlace info.segments_per_track segment sector) → result ≡ Ok (Err BadPlace)) →
     IfSome cartridge (λ info. IsPlace info.segments_per_track segment sector → P result) →
-    result ≢ Err NoCartridge → result ≢ Err BadPlace → Reached cartridge segment sector (P result)
+    result ≢ Ok (Err NoCartridge) → result ≢ Ok (Err BadPlace) → Reached cartridge segment sector (P result)
 reached None segment sector result P absent misplaced placed some good = absurd (some absent)
 reached (Some info) segment sector result P absent misplaced placed some good =
     by_place (place_or_not info.segments_per_track segment sector)
@@ -38,11 +38,11 @@ reached (Some info) segment sector result P absent misplaced placed some good =
     by_place (inr none) = absurd (good (misplaced none))
 
 -- one that was refused for want of a cartridge
-pub unknown : (cartridge : Option TapeInfo) (segment sector : ℕ) (result : Result (Unit {0}) HandFault)
-    (P : Result (Unit {0}) HandFault → Type 0) →
-    IfSome cartridge (λ info. ¬ (IsPlace info.segments_per_track segment sector) → result ≡ Err BadPlace) →
+pub unknown : (cartridge : Option TapeInfo) (segment sector : ℕ) (result : HandAnswer (Unit {0}))
+    (P : HandAnswer (Unit {0}) → Type 0) →
+    IfSome cartridge (λ info. ¬ (IsPlace info.segments_per_track segment sector) → result ≡ Ok (Err BadPlace)) →
     IfSome cartridge (λ info. IsPlace info.segments_per_track segment sector → P result) →
-    result ≡ Err NoCartridge → ¬ (P (Err NoCartridge)) → cartridge ≡ None
+    result ≡ Ok (Err NoCartridge) → ¬ (P (Ok (Err NoCartridge))) → cartridge ≡ None
 unknown None segment sector result P misplaced placed is never = refl
 unknown (Some info) segment sector result P misplaced placed is never = by_place (place_or_not info.segments_per_track segment sector)
   where
@@ -51,11 +51,11 @@ unknown (Some info) segment sector result P misplaced placed is never = by_place
     by_place (inr none) = let other = misplaced none in absurd (cc)
 
 -- .. and for want of the sector
-pub no_place : (cartridge : Option TapeInfo) (segment sector : ℕ) (result : Result (Unit {0}) HandFault)
-    (P : Result (Unit {0}) HandFault → Type 0) →
-    IfNone cartridge (result ≡ Err NoCartridge) →
+pub no_place : (cartridge : Option TapeInfo) (segment sector : ℕ) (result : HandAnswer (Unit {0}))
+    (P : HandAnswer (Unit {0}) → Type 0) →
+    IfNone cartridge (result ≡ Ok (Err NoCartridge)) →
     IfSome cartridge (λ info. IsPlace info.segments_per_track segment sector → P result) →
-    result ≡ Err BadPlace → ¬ (P (Err BadPlace)) → Misplaced cartridge segment sector
+    result ≡ Ok (Err BadPlace) → ¬ (P (Ok (Err BadPlace))) → Misplaced cartridge segment sector
 no_place None segment sector result P absent placed is never = absurd (cc)
 no_place (Some info) segment sector result P absent placed is never =
     record { info = info; known = refl; none = λ place. never (subst P is (placed place)) }
@@ -87,14 +87,14 @@ pub record NotSwitched (cartridge : Option TapeInfo) (Q : Type 0) : Type 0 where
   pub known : cartridge ≡ None
   pub same : Q
 
-pub switched : {A : Type 0} (cartridge : Option TapeInfo) (result : Result A HandFault) (P : Result A HandFault → Type 0) (Q : Type 0) →
-    IfNone cartridge ((result ≡ Err NoCartridge) × Q) → IfSome cartridge (λ info. P result) → result ≢ Err NoCartridge →
+pub switched : {A : Type 0} (cartridge : Option TapeInfo) (result : HandAnswer A) (P : HandAnswer A → Type 0) (Q : Type 0) →
+    IfNone cartridge ((result ≡ Ok (Err NoCartridge)) × Q) → IfSome cartridge (λ info. P result) → result ≢ Ok (Err NoCartridge) →
     Switched cartridge (P result)
 switched None result P Q absent present some = absurd (some absent.0)
 switched (Some info) result P Q absent present some = record { info = info; known = refl; fact = present }
 
-pub no_switch : {A : Type 0} (cartridge : Option TapeInfo) (result : Result A HandFault) (P : Result A HandFault → Type 0) (Q : Type 0) →
-    IfNone cartridge ((result ≡ Err NoCartridge) × Q) → IfSome cartridge (λ info. P result) → result ≡ Err NoCartridge →
-    ¬ (P (Err NoCartridge)) → NotSwitched cartridge Q
+pub no_switch : {A : Type 0} (cartridge : Option TapeInfo) (result : HandAnswer A) (P : HandAnswer A → Type 0) (Q : Type 0) →
+    IfNone cartridge ((result ≡ Ok (Err NoCartridge)) × Q) → IfSome cartridge (λ info. P result) → result ≡ Ok (Err NoCartridge) →
+    ¬ (P (Ok (Err NoCartridge))) → NotSwitched cartridge Q
 no_switch None result P Q absent present is never = record { known = refl; same = absent.1 }
 no_switch (Some info) result P Q absent present is never = absurd (never (subst P is present))

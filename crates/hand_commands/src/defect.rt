@@ -23,13 +23,13 @@ pub fn spoil<T: Tape, K: Sink>(
         return Status::TapeFault;
     }
     match unit.spoil(segment, sector) {
-        Ok(()) => printed(write_text(
+        Ok(Ok(())) => printed(write_text(
             place_text(b"defect", u64::from(segment), u64::from(sector)).bytes(),
             sink,
         )),
-        Err(HandFault::NoCartridge) => Status::NoCartridge,
-        Err(HandFault::BadPlace) => Status::BadPlace,
-        Err(HandFault::NotBlank) => Status::NotBlank,
-        Err(HandFault::Tape) => Status::TapeFault,
+        Ok(Err(HandFault::NoCartridge)) => Status::NoCartridge,
+        Ok(Err(HandFault::BadPlace)) => Status::BadPlace,
+        Ok(Err(HandFault::NotBlank)) => Status::NotBlank,
+        Err(TapeFailed) => Status::TapeFault,
     }
 }

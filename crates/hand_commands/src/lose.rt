@@ -18,13 +18,13 @@ pub fn lose<T: Tape, K: Sink>(unit: &mut Unit<T>, segment: u32, sector: u32, sin
         return Status::TapeFault;
     }
     match unit.wear(segment, sector) {
-        Ok(()) => printed(write_text(
+        Ok(Ok(())) => printed(write_text(
             place_text(b"lost", u64::from(segment), u64::from(sector)).bytes(),
             sink,
         )),
-        Err(HandFault::NoCartridge) => Status::NoCartridge,
-        Err(HandFault::BadPlace) => Status::BadPlace,
-        Err(HandFault::Tape) => Status::TapeFault,
-        Err(HandFault::NotBlank) => unreachable!("a sector is worn whatever it holds"),
+        Ok(Err(HandFault::NoCartridge)) => Status::NoCartridge,
+        Ok(Err(HandFault::BadPlace)) => Status::BadPlace,
+        Ok(Err(HandFault::NotBlank)) => unreachable!("a sector is worn whatever it holds"),
+        Err(TapeFailed) => Status::TapeFault,
     }
 }

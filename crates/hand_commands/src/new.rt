@@ -6,8 +6,8 @@ ghost use Rattle.command_laws.specs.RunTerms.{EndsBlind};
 
 use crate::lines::printed;
 use command_spec::Status;
-use drive_states::{HandFault, Unit};
-use qic_base::{Sink, Tape, write_text};
+use drive_states::Unit;
+use qic_base::{Sink, Tape, TapeFailed, write_text};
 use tape_script::number_text;
 
 /// Puts in a new cartridge, never formatted.
@@ -18,9 +18,6 @@ pub fn put_in_new<T: Tape, K: Sink>(unit: &mut Unit<T>, segments: u16, sink: &mu
 {
     match unit.load_blank(segments) {
         Ok(()) => printed(write_text(number_text(b"blank", u64::from(segments)).bytes(), sink)),
-        Err(HandFault::Tape) => Status::TapeFault,
-        Err(HandFault::NoCartridge | HandFault::BadPlace | HandFault::NotBlank) => {
-            unreachable!("a new cartridge needs none before it")
-        }
+        Err(TapeFailed) => Status::TapeFault,
     }
 }

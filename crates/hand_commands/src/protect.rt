@@ -17,9 +17,11 @@ pub fn protect<T: Tape, K: Sink>(unit: &mut Unit<T>, on: bool, sink: &mut K) -> 
         return Status::TapeFault;
     }
     match unit.protect(on) {
-        Ok(()) => printed(write_text(protected_text(on), sink)),
-        Err(HandFault::NoCartridge) => Status::NoCartridge,
-        Err(HandFault::Tape) => Status::TapeFault,
-        Err(HandFault::BadPlace | HandFault::NotBlank) => unreachable!("the switch is no sector"),
+        Ok(Ok(())) => printed(write_text(protected_text(on), sink)),
+        Ok(Err(HandFault::NoCartridge)) => Status::NoCartridge,
+        Ok(Err(HandFault::BadPlace | HandFault::NotBlank)) => {
+            unreachable!("the switch is no sector")
+        }
+        Err(TapeFailed) => Status::TapeFault,
     }
 }

@@ -17,16 +17,16 @@ pub fn upgrade<T: Tape, K: Sink>(unit: &mut Unit<T>, sink: &mut K) -> Status
         return Status::TapeFault;
     }
     match unit.upgrade() {
-        Ok(version) => {
+        Ok(Ok(version)) => {
             printed(write_text(
                 number_text(b"upgraded from", u64::from(version)).bytes(),
                 sink,
             ))
         }
-        Err(HandFault::NoCartridge) => Status::NoCartridge,
-        Err(HandFault::Tape) => Status::TapeFault,
-        Err(HandFault::BadPlace | HandFault::NotBlank) => {
+        Ok(Err(HandFault::NoCartridge)) => Status::NoCartridge,
+        Ok(Err(HandFault::BadPlace | HandFault::NotBlank)) => {
             unreachable!("an upgrade names no sector")
         }
+        Err(TapeFailed) => Status::TapeFault,
     }
 }

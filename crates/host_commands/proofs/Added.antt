@@ -49,7 +49,7 @@ use Rattle.volume_store.specs.Opening.{HasOpened}
 use Rattle.volume_store.specs.Appending.{kept_by, AppendRan, HasAppended, TableRefused, AppendCut, AppendEnds}
 use Rattle.volume_store.specs.Mounting.{StoreView, IsOpened}
 use Rattle.volume_store.specs.declared.appended.Appended.{Appended}
-use Rattle.segment_io.specs.declared.fault.StoreFault.{StoreFault}
+use Rattle.qic_base.specs.declared.store_fault.StoreFault.{StoreFault}
 use Rattle.hand_commands.proofs.Endings.{told_map, told_both}
 use Rattle.host_commands.proofs.Mounted.{BeginsSettling, locked_is, unlocked_refused_is, writable_begins, table_lost, input_unread}
 use Rattle.host_commands.proofs.Mounted.{no_outcome}
@@ -67,7 +67,7 @@ use Rattle.qic_base.specs.Source as sources
 use Rattle.qic_base.specs.Tape as tapes
 use Rattle.qic_base.specs.TapeCalls as tape_calls
 use Rattle.cartridge_spec.specs.Mounting as mounting
-use Rattle.segment_io.specs.declared.fault.StoreFault.TheVariants as fault
+use Rattle.qic_base.specs.declared.store_fault.StoreFault.TheVariants as fault
 
 -- ---- the input
 

@@ -36,7 +36,7 @@ use Rattle.command_laws.proofs.CommandEndings.{Rules, none_reached, nothing_fron
 use Rattle.volume_store.proofs.Ending.{none_left}
 use Rattle.volume_store.proofs.Mounted.{cut_first}
 use Rattle.volume_store.proofs.Started.{Present}
-use Rattle.segment_io.specs.declared.fault.StoreFault.{StoreFault}
+use Rattle.qic_base.specs.declared.store_fault.StoreFault.{StoreFault}
 use Rattle.cartridge_front.specs.Learning.{MountRefuses}
 use Rattle.hand_commands.specs.Outcome.{first_steps}
 use Rattle.host_commands.specs.Opening.{IsRefusal, RefusesOpening, is_opening, NoStart, OpeningRefused, OpeningEnds, IsUnlocked}
@@ -54,7 +54,7 @@ use Rattle.qic_base.specs.Source as sources
 use Rattle.qic_base.specs.SinkCalls as sink_calls
 use Rattle.qic_base.specs.Tape as tapes
 use Rattle.cartridge_spec.specs.Mounting as mounting
-use Rattle.segment_io.specs.declared.fault.StoreFault.TheVariants as fault
+use Rattle.qic_base.specs.declared.store_fault.StoreFault.TheVariants as fault
 use Rattle.command_spec.specs.declared.words.Words.TheVariants as words
 use Rattle.command_spec.specs.declared.status.Status.TheVariants as status
 

@@ -1,8 +1,8 @@
 -- The answer that each fault of a store makes (this project's own).
 use Rattle.command_spec.specs.declared.status.Status.{Status}
-use Rattle.segment_io.specs.declared.fault.StoreFault.{StoreFault}
+use Rattle.qic_base.specs.declared.store_fault.StoreFault.{StoreFault}
 use Rattle.command_spec.specs.declared.status.Status.TheVariants as status
-use Rattle.segment_io.specs.declared.fault.StoreFault.TheVariants as fault
+use Rattle.qic_base.specs.declared.store_fault.StoreFault.TheVariants as fault
 
 -- the answer that a refusal of a store makes, or its fault; a source that ends early has none, since a command that appends its
 -- whole input promises no bytes

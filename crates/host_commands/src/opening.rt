@@ -1,15 +1,14 @@
 //! The cartridge that the drive holds, opened: put in and mounted.
 
 ghost use Rattle.std.specs.Prelude.{◌≡◌, ◌≢◌, ℕ};
-ghost use Rattle.segment_io.specs.declared.fault.StoreFault.TheVariants.{Short};
+ghost use Rattle.qic_base.specs.declared.store_fault.StoreFault.TheVariants.{Short};
 ghost use Rattle.host_commands.specs.Opening.{OpeningEnds, StartAnswers, WritableEnds};
 ghost use Rattle.host_commands.specs.Statuses.{store_status as status_of};
 
 use command_spec::Status;
 use drive_states::Unit;
 use host_driver::Host;
-use qic_base::{Tape, TapeFailed};
-use segment_io::StoreFault;
+use qic_base::{StoreFault, Tape, TapeFailed};
 use volume_store::{Room, Store};
 
 /// Puts the cartridge in and starts a host on it.

@@ -1,16 +1,19 @@
 -- What stays over the calls of a host.
-use Rattle.std.proofs.Common.{◌≡◌, Bool, true, false, refl, sym, ap, ◌∙◌, subst, Option, IfSome, IsSomeAnd}
+use Rattle.std.proofs.Common.{◌≡◌, ℕ, Bool, true, false, refl, sym, ap, ◌∙◌, subst, Option, IfSome, IsSomeAnd}
 use Rattle.std.specs.Option.{option_map_or}
 use Rattle.qic_base.specs.Tape.{Meaning}
 use Rattle.qic_base.specs.declared.tape.TapeInfo.{TapeInfo}
 use Rattle.qic117_commands.specs.declared.view.Mode.{Mode}
 use Rattle.qic117_commands.specs.Views.{is_primary}
 use Rattle.drive_spec.specs.declared.deck.Deck.{Deck}
+use Rattle.drive_spec.specs.Deck.{segments_per_track}
 use Rattle.drive_states.specs.Unit.{UnitView}
 use Rattle.host_driver.specs.declared.host.Host.{Host}
 use Rattle.host_driver.specs.Calls.{IsReady, MayWrite, Keeps}
 use Rattle.host_driver.specs.Fits.{AgreesWithTape}
 use Rattle.host_driver.specs.Place.{KeepsMode}
+use Rattle.host_driver.specs.Train.{ready_deck}
+use Rattle.host_driver.proofs.Reaching.{length_is}
 
 -- a test of the mode is what it was
 pub mode_kept : (test : Mode → Bool) (value : Bool) (a b : Deck) → KeepsMode a b → test a.mode ≡ value → test b.mode ≡ value
@@ -61,3 +64,17 @@ keeps_both first next = record {
   agrees = λ agrees. next.agrees (first.agrees agrees);
   size = next.size ∙ first.size;
 }
+
+-- what keeps the mode of a drive once it stands keeps that of the drive
+pub stood_keeps : {a b c : Deck} → b ≡ ready_deck a → KeepsMode b c → KeepsMode a c
+stood_keeps stood same = record {
+  cartridge = same.cartridge ∙ ap (λ (d : Deck). d.cartridge) stood;
+  mode = same.mode ∙ ap (λ (d : Deck). d.mode) stood;
+}
+
+-- the length that a host learnt is still that of the cartridge
+pub length_kept : (n : ℕ) {a b : Deck} → KeepsMode a b → IsSomeAnd a.cartridge (λ info. info.segments_per_track ≡ n) →
+    segments_per_track b ≡ n
+length_kept n {a} {b} same long =
+    ap (λ (cartridge : Option TapeInfo). option_map_or (λ info. info.segments_per_track) cartridge 0) same.cartridge
+    ∙ length_is n a.cartridge long

@@ -4,9 +4,10 @@ use Rattle.std.proofs.lemmas.Bool.Decides.{nat_tests}
 use Rattle.drive_spec.specs.declared.deck.Deck.{Deck}
 use Rattle.drive_spec.specs.declared.deck.Motion.{Motion}
 use Rattle.drive_spec.specs.declared.deck.Motion.TheVariants.{Stopped, Streaming, Seeking}
+use Rattle.drive_spec.specs.Deck.{is_streaming}
 use Rattle.drive_spec.specs.Effects.{ticked, ticked_motion}
 use Rattle.drive_states.specs.Typed.{is_seeking}
-use Rattle.host_driver.specs.Train.{moved_for, waited}
+use Rattle.host_driver.specs.Train.{moved_for, waited, ready_deck}
 
 ticked-one : (m : Motion) → ticked_motion m ≡ moved_for 1 m
 ticked-one Stopped = refl
@@ -55,3 +56,12 @@ ticked-still d still = ap (λ (m : Motion). record d { motion = m }) (by_motion 
     by_motion Stopped e = refl
     by_motion (Streaming next) e = refl
     by_motion (Seeking left) e = cc
+
+-- a tape that neither streams nor seeks is where it was on the way to
+pub stands_ready : (d : Deck) → is_streaming d.motion ≡ false → is_seeking d.motion ≡ false → d ≡ ready_deck d
+stands_ready d stands still = ap (λ (m : Motion). record d { motion = m }) (by_motion d.motion stands still)
+  where
+    by_motion : (m : Motion) → is_streaming m ≡ false → is_seeking m ≡ false → m ≡ Stopped
+    by_motion Stopped a b = refl
+    by_motion (Streaming next) a b = cc
+    by_motion (Seeking left) a b = cc

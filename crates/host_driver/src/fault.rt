@@ -1,5 +1,5 @@
 //! Why the host does not enter a mode.
 
 /// The cartridge is write protected, so it is not formatted.
-#[derive(Clone, Copy, Debug, PartialEq, Eq)]
+#[derive(Clone, Copy)]
 pub struct WriteProtected;

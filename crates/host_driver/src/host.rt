@@ -23,7 +23,7 @@ use tape_geometry::Geometry;
 
 /// What a host has learnt of a drive by reports, and what it remembers of the drive's place and mode. It doesn't hold
 /// the unit: each call is handed the unit that it drives.
-#[derive(Clone, Copy, Debug)]
+#[derive(Clone, Copy)]
 pub struct Host {
     pub(crate) geometry: Geometry,
     pub(crate) deck: Deck,

@@ -6,7 +6,7 @@ ghost use Rattle.host_driver.specs.Reports.{command_of, width_of};
 use qic117_commands::Command;
 
 /// A report of the drive (QIC-117): of 8 bits, but for the error word, the vendor and the format segments, of 16.
-#[derive(Clone, Copy, Debug, PartialEq, Eq)]
+#[derive(Clone, Copy)]
 pub enum Report {
     Status,
     Error,

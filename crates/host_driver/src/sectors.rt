@@ -259,10 +259,10 @@ impl Host {
         unit: &mut Unit<T>,
         segment: u32,
         sector: u32,
-    ) -> Result<(), HandFault>
+    ) -> Result<Result<(), HandFault>, TapeFailed>
         requires ready { IsReady T.means self.old unit.old }
         ensures misplaced { ¬ (IsPlace (segments_per_track unit.old.drive.deck) segment sector) →
-            (result ≡ Err HandFault.BadPlace) × (unit.new ≡ unit.old) }
+            (result ≡ Ok (Err HandFault.BadPlace)) × (unit.new ≡ unit.old) }
         ensures placed { IsPlace (segments_per_track unit.old.drive.deck) segment sector →
             Wears T.means unit.old unit.new segment sector result }
         ensures drive { unit.new.drive ≡ unit.old.drive }

@@ -66,15 +66,15 @@ pub enum Row {
     /// A person takes the cartridge out and puts it in again.
     Insert,
     /// A person puts in a new cartridge of so many segments per track.
-    Load(u16, Result<(), HandFault>),
+    Load(u16, Result<(), TapeFailed>),
     /// A person sets or clears the protect mark.
-    Protect(bool, Result<(), HandFault>),
+    Protect(bool, Result<Result<(), HandFault>, TapeFailed>),
     /// A person wears a sector.
-    Wear(u32, u32, Result<(), HandFault>),
+    Wear(u32, u32, Result<Result<(), HandFault>, TapeFailed>),
     /// A person spoils a sector.
-    Spoil(u32, u32, Result<(), HandFault>),
+    Spoil(u32, u32, Result<Result<(), HandFault>, TapeFailed>),
     /// A person brings the cartridge to the newest layout.
-    Upgrade(Result<u8, HandFault>),
+    Upgrade(Result<Result<u8, HandFault>, TapeFailed>),
     /// A train of so many pulses, which leaves the level 0 on the line.
     Train(u16),
     /// A report of the status, a word of 8 bits.

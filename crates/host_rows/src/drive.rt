@@ -30,16 +30,16 @@ fn an_empty_drive_takes_a_blank_cartridge_alone(rt: HostRuntime) {
         &mut unit,
         &[
             Row::Status(0x01),
-            Row::Protect(true, Err(HandFault::NoCartridge)),
-            Row::Wear(84, 32, Err(HandFault::NoCartridge)),
-            Row::Spoil(0, 0, Err(HandFault::NoCartridge)),
-            Row::Upgrade(Err(HandFault::NoCartridge)),
+            Row::Protect(true, Ok(Err(HandFault::NoCartridge))),
+            Row::Wear(84, 32, Ok(Err(HandFault::NoCartridge))),
+            Row::Spoil(0, 0, Ok(Err(HandFault::NoCartridge))),
+            Row::Upgrade(Ok(Err(HandFault::NoCartridge))),
             Row::Load(3, Ok(())),
             Row::Status(0x55),
-            Row::Upgrade(Ok(2)),
+            Row::Upgrade(Ok(Ok(2))),
             Row::Status(0x55),
             // The tape has no room for a longer one, and the drive then knows of none.
-            Row::Load(4, Err(HandFault::Tape)),
+            Row::Load(4, Err(TapeFailed)),
             Row::Status(0x01),
         ],
     );
@@ -74,7 +74,7 @@ fn sectors_are_written_as_they_pass(rt: HostRuntime) {
         Row::Train(10),
         Row::Shows(front(5), 0),
         Row::Shows(front(6), WRITTEN),
-        Row::Protect(true, Ok(())),
+        Row::Protect(true, Ok(Ok(()))),
         Row::Error(0),
         Row::Train(10),
         Row::Write(front(5), Ok(Err(FdcFault::Protected))),
@@ -95,7 +95,7 @@ fn a_fault_of_the_tape_leaves_the_head_where_it_was(rt: HostRuntime) {
         Row::Shows(front(1), 0),
         Row::Write(front(2), Err(TapeFailed)),
         Row::Write(front(2), Ok(Ok(()))),
-        Row::Upgrade(Err(HandFault::Tape)),
+        Row::Upgrade(Err(TapeFailed)),
         Row::Status(0x01),
     ];
     assert_eq!(rt;
@@ -116,7 +116,7 @@ fn sure(alloc: Global) -> Result<Unit<SureTape>, Fail> {
 
 /// What a person finds who spoils the first sector of a segment there.
 fn spoiled(alloc: Global, segment: u32) -> Result<Result<(), HandFault>, Fail> {
-    Ok(sure(alloc)?.spoil(segment, 0))
+    Ok(sure(alloc)?.spoil(segment, 0)?)
 }
 
 #[test]

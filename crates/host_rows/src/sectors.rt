@@ -51,7 +51,11 @@ fn all_good(good: u32) -> Option<Result<SectorsRead, TapeFailed>> {
 }
 
 /// Has a host that knows the cartridge wear a sector.
-fn wear(unit: &mut Unit<MemTape>, segment: u32, sector: u32) -> Option<Result<(), HandFault>> {
+fn wear(
+    unit: &mut Unit<MemTape>,
+    segment: u32,
+    sector: u32,
+) -> Option<Result<Result<(), HandFault>, TapeFailed>> {
     let mut host = begun(unit)?;
     Some(host.wear(unit, segment, sector))
 }
@@ -103,7 +107,11 @@ fn several_sectors_are_read_and_written_in_one_call(rt: HostRuntime) {
     assert_eq!(rt;
         (seen, found, again),
         (
-            (Some(Ok(())), all_good(5), Some(Ok(LostSet::from_mask(0)))),
+            (
+                Some(Ok(Ok(()))),
+                all_good(5),
+                Some(Ok(LostSet::from_mask(0)))
+            ),
             [[WRITTEN; 1024], [1; 1024], [0; 1024], [1; 1024]],
             (all_good(3), [[WRITTEN; 1024], [9; 1024]]),
         )
@@ -129,13 +137,13 @@ fn a_host_wears_the_sectors_of_its_cartridge(rt: HostRuntime) {
         (refused, seen),
         (
             [
-                Some(Err(HandFault::Tape)),
-                Some(Err(HandFault::BadPlace)),
-                Some(Err(HandFault::BadPlace)),
+                Some(Err(TapeFailed)),
+                Some(Ok(Err(HandFault::BadPlace))),
+                Some(Ok(Err(HandFault::BadPlace))),
             ],
             (
                 Some(Ok(SectorRead::Good)),
-                Some(Ok(())),
+                Some(Ok(Ok(()))),
                 Some(Ok(SectorRead::Lost)),
             ),
         )

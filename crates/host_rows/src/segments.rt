@@ -60,9 +60,15 @@ fn mask_of<E>(answer: Result<LostSet, E>) -> Result<u32, E> {
     }
 }
 
-fn read(unit: &mut Unit<MemTape>, work: &mut Workspace) -> Option<Result<u32, SegFault>> {
+fn read(
+    unit: &mut Unit<MemTape>,
+    work: &mut Workspace,
+) -> Option<Result<Result<u32, SegFault>, TapeFailed>> {
     let mut host = begun(unit)?;
-    Some(mask_of(read_segment(&mut host, unit, SEGMENT, USABLE, work)))
+    match read_segment(&mut host, unit, SEGMENT, USABLE, work) {
+        Ok(read) => Some(Ok(mask_of(read))),
+        Err(failed) => Some(Err(failed)),
+    }
 }
 
 fn gather(unit: &mut Unit<MemTape>, work: &mut Workspace) -> Option<Result<u32, TapeFailed>> {
@@ -71,7 +77,7 @@ fn gather(unit: &mut Unit<MemTape>, work: &mut Workspace) -> Option<Result<u32, 
 }
 
 /// Wears a sector of the segment.
-fn wear(unit: &mut Unit<MemTape>, sector: u32) -> Result<(), HandFault> {
+fn wear(unit: &mut Unit<MemTape>, sector: u32) -> Result<Result<(), HandFault>, TapeFailed> {
     unit.wear(SEGMENT, sector)
 }
 
@@ -135,9 +141,9 @@ fn a_written_segment_is_read_without_three_sectors(rt: HostRuntime) {
         (written, worn, found, lost),
         (
             Some(Ok(())),
-            [Ok(()); 3],
-            (Some(Ok(0x0801_0001)), true),
-            (Ok(()), Some(Err(fault)))
+            [Ok(Ok(())); 3],
+            (Some(Ok(Ok(0x0801_0001))), true),
+            (Ok(Ok(())), Some(Ok(Err(fault))))
         )
     );
 }
@@ -202,10 +208,10 @@ fn a_read_that_fails_is_told(rt: HostRuntime) {
         (
             (
                 Some(Err(TapeFailed)),
-                [Some(Err(SegFault::Tape)); 2],
+                [Some(Err(TapeFailed)); 2],
                 Some(Ok(0))
             ),
-            (true, Some(Ok(0)))
+            (true, Some(Ok(Ok(0))))
         )
     );
 }

@@ -23,7 +23,7 @@ use Rattle.command_laws.specs.MadeTerms.{made_entry, made_acts, IsAppendAnswer}
 use Rattle.command_laws.specs.AppendTerms.{entry_for, silently}
 use Rattle.volume_store.specs.Appending.{kept_by, AppendRan, AppendCut, TableRefused, AppendEnds, CutUnread, FaultsUnread}
 use Rattle.volume_store.specs.Mounting.{StoreView, StoreFits}
-use Rattle.segment_io.specs.declared.fault.StoreFault.{StoreFault}
+use Rattle.qic_base.specs.declared.store_fault.StoreFault.{StoreFault}
 use Rattle.made_volumes.specs.Runs.{HasRun, RunCut, RunEnds}
 use Rattle.command_laws.proofs.MadeMachineLaws.{run_of, done_of}
 use Rattle.command_laws.proofs.MadeMadeBytes.{length-made_bytes}
@@ -33,7 +33,7 @@ use Rattle.cartridge_laws.proofs.MountOnce.{not_lost}
 use Rattle.volume_store.proofs.Fitting.{told_mark}
 use Rattle.qic_base.specs.Tape as tapes
 use Rattle.qic_base.specs.TapeCalls as tape_calls
-use Rattle.segment_io.specs.declared.fault.StoreFault.TheVariants as fault
+use Rattle.qic_base.specs.declared.store_fault.StoreFault.TheVariants as fault
 use Rattle.command_spec.specs.declared.status.Status.TheVariants as status
 
 -- ---- the mark

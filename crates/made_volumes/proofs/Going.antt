@@ -11,7 +11,7 @@ use Rattle.cartridge_spec.specs.Shape.{mask_at, usable_count}
 use Rattle.cartridge_spec.specs.Table.{Entry}
 use Rattle.cartridge_spec.specs.Volumes.{carrying, carrying_segments}
 use Rattle.cartridge_laws.proofs.Places.{none_below, front_of_places, front_of_all}
-use Rattle.segment_io.specs.declared.fault.StoreFault.{StoreFault}
+use Rattle.qic_base.specs.declared.store_fault.StoreFault.{StoreFault}
 use Rattle.command_spec.specs.Make.{MakeStep, AppendMade, WearSector, ScrubAll, SumVolume, appending, wearing_in, wearing_volumes, summing}
 use Rattle.command_spec.specs.Make.{made_list, making}
 use Rattle.command_laws.specs.MadeTerms.{made_entry, first_two, wearing}

@@ -7,8 +7,8 @@ use Rattle.qic_base.specs.Acts.{Outside, text_of}
 use Rattle.qic_base.specs.Alone.{no_sink}
 use Rattle.cartridge_spec.specs.Table.{Entry}
 use Rattle.volume_store.specs.Mounting.{StoreView}
-use Rattle.segment_io.specs.declared.fault.StoreFault.{StoreFault}
-use Rattle.segment_io.specs.declared.fault.StoreFault.TheVariants as fault
+use Rattle.qic_base.specs.declared.store_fault.StoreFault.{StoreFault}
+use Rattle.qic_base.specs.declared.store_fault.StoreFault.TheVariants as fault
 use Rattle.cartridge_spec.specs.Appending.{room}
 use Rattle.command_spec.specs.Append.{has_promised_room}
 use Rattle.command_spec.specs.Make.{MakeStep, AppendMade, made_length, made_list, made_answer}

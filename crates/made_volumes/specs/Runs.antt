@@ -7,8 +7,8 @@ use Rattle.qic_base.specs.Acts.{Act, text_of, Outside, Failing, TapeFails, SinkF
 use Rattle.qic_base.specs.Alone.{no_source}
 use Rattle.cartridge_spec.specs.Table.{Entry}
 use Rattle.volume_store.specs.Mounting.{StoreView}
-use Rattle.segment_io.specs.declared.fault.StoreFault.{StoreFault}
-use Rattle.segment_io.specs.declared.fault.StoreFault.TheVariants as fault
+use Rattle.qic_base.specs.declared.store_fault.StoreFault.{StoreFault}
+use Rattle.qic_base.specs.declared.store_fault.StoreFault.TheVariants as fault
 use Rattle.command_spec.specs.Make.{MakeStep, made_list, making, Runs, made_answer, MayRun}
 use Rattle.command_spec.specs.declared.status.Status.{Status}
 use Rattle.command_spec.specs.declared.status.Status.TheVariants as status

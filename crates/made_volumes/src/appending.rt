@@ -7,11 +7,10 @@ ghost use Rattle.volume_store.specs.Appending.{KeepsFormat};
 ghost use Rattle.volume_store.specs.Mounting.{StoreFits};
 ghost use Rattle.command_laws.specs.MadeTerms.{made_entry};
 ghost use Rattle.made_volumes.specs.Runs.{RunEnds, IsListed, AreListed};
-ghost use Rattle.segment_io.specs.declared.fault.StoreFault.TheVariants.{Tape as tape_fault};
+ghost use Rattle.qic_base.specs.declared.store_fault.StoreFault.TheVariants.{Tape as tape_fault};
 
 use drive_states::Unit;
-use qic_base::{Name, Tape};
-use segment_io::StoreFault;
+use qic_base::{Name, StoreFault, Tape};
 use tape_script::{Made, TextLine};
 use volume_store::Store;
 

@@ -6,14 +6,13 @@ ghost use Rattle.volume_store.specs.Appending.{KeepsFormat};
 ghost use Rattle.volume_store.specs.Mounting.{StoreFits, KeepsStore};
 ghost use Rattle.command_spec.specs.Make.{ScrubAll};
 ghost use Rattle.made_volumes.specs.Runs.{RunEnds, MakeEnds, AreListed, NeverFull};
-ghost use Rattle.segment_io.specs.declared.fault.StoreFault.TheVariants.{Tape as tape_fault};
+ghost use Rattle.qic_base.specs.declared.store_fault.StoreFault.TheVariants.{Tape as tape_fault};
 
 use crate::appending::append_volumes;
 use crate::summing::sum_volumes;
 use crate::wearing::wear_volumes;
 use drive_states::Unit;
-use qic_base::{Sink, Tape};
-use segment_io::StoreFault;
+use qic_base::{Sink, StoreFault, Tape};
 use volume_store::Store;
 
 /// Scrubs the cartridge.

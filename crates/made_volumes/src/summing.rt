@@ -5,11 +5,10 @@ ghost use Rattle.qic_base.specs.Alone.{around};
 ghost use Rattle.volume_store.specs.Mounting.{StoreFits, KeepsStore};
 ghost use Rattle.command_spec.specs.Make.{SumVolume, summing, sum_line};
 ghost use Rattle.made_volumes.specs.Runs.{RunEnds, NeverFull};
-ghost use Rattle.segment_io.specs.declared.fault.StoreFault.TheVariants.{Tape as tape_fault};
+ghost use Rattle.qic_base.specs.declared.store_fault.StoreFault.TheVariants.{Tape as tape_fault};
 
 use drive_states::Unit;
-use qic_base::{Sink, Tape, write_text};
-use segment_io::StoreFault;
+use qic_base::{Sink, StoreFault, Tape, write_text};
 use tape_script::{Summed, TextLine};
 use volume_store::{Form, Store};
 

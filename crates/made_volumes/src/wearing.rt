@@ -7,12 +7,11 @@ ghost use Rattle.volume_store.specs.Mounting.{StoreFits};
 ghost use Rattle.command_spec.specs.Make.{WearSector, wearing_in, wearing_volumes};
 ghost use Rattle.command_laws.specs.MadeTerms.{first_two, wearing};
 ghost use Rattle.made_volumes.specs.Runs.{RunEnds, NeverFull};
-ghost use Rattle.segment_io.specs.declared.fault.StoreFault.TheVariants.{Tape as tape_fault};
+ghost use Rattle.qic_base.specs.declared.store_fault.StoreFault.TheVariants.{Tape as tape_fault};
 
 use bad_sector_map::FEWEST;
 use drive_states::{HandFault, Unit};
-use qic_base::{LostSet, Tape};
-use segment_io::StoreFault;
+use qic_base::{LostSet, StoreFault, Tape};
 use volume_store::Store;
 
 /// Sectors are worn in each segment whose number is a multiple of this.
@@ -37,9 +36,8 @@ fn wear_sector<T: Tape>(
     ensures room { NeverFull result }
     ensures fits { result ≢ Err tape_fault → StoreFits T.means store.new unit.new }
 {
-    match store.wear(unit, segment, sector) {
+    match store.wear(unit, segment, sector)? {
         Ok(()) => Ok(()),
-        Err(HandFault::Tape) => Err(StoreFault::Tape),
         Err(HandFault::NoCartridge) => unreachable!("the cartridge is mounted"),
         Err(HandFault::BadPlace) => unreachable!("the segment is one of the cartridge"),
         Err(HandFault::NotBlank) => unreachable!("a sector is worn whatever it holds"),

@@ -14,6 +14,7 @@ mod one_sector;
 mod sectors;
 mod sink;
 mod source;
+mod store_fault;
 mod tape;
 mod write;
 
@@ -28,6 +29,7 @@ pub use one_sector::{read_sector, write_sector};
 pub use sectors::are_sectors;
 pub use sink::{Sink, SinkFailed};
 pub use source::{Source, SourceFailed};
+pub use store_fault::StoreFault;
 pub use tape::{SectorRead, SectorView, SectorWrite, SectorsRead, Tape, TapeFailed, TapeInfo};
 pub use write::write_text;
 

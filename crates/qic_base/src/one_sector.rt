@@ -23,17 +23,16 @@ fn put_in(sectors: &mut [Sector], sector: u8, from: &Sector)
     sectors[usize::from(sector)] = *from;
 }
 
-/// 32 sectors, of which this one has these bytes; they are what is written where the set names that sector alone.
-fn sectors_with(sector: u8, from: &Sector) -> [Sector; 32]
+/// Puts them into its entry of 32; they are what is written where the set names that sector alone.
+fn put_alone(sectors: &mut [Sector; 32], sector: u8, from: &Sector)
     requires { sector < 32 }
-    ensures { chosen (2 ^ sector) result ≡ record { sector = sector; bytes = from.now } ∷ [] }
+    ensures { chosen (2 ^ sector) sectors.new ≡ record { sector = sector; bytes = from.now } ∷ [] }
 {
-    let mut sectors = [[0; SECTOR]; 32];
-    put_in(&mut sectors, sector, from);
-    sectors
+    put_in(sectors, sector, from);
 }
 
-/// Reads a sector. `into` is unchanged unless the answer is `Good`.
+/// Reads a sector. `into` is unchanged unless the answer is `Good`. The room for 32 sectors is taken only while it reads.
+#[inline(never)]
 pub fn read_sector<T: Tape>(
     tape: &mut T,
     segment: u32,
@@ -59,7 +58,8 @@ pub fn read_sector<T: Tape>(
     }
 }
 
-/// Writes a sector.
+/// Writes a sector. The room for 32 sectors is taken only while it writes.
+#[inline(never)]
 pub fn write_sector<T: Tape>(
     tape: &mut T,
     segment: u32,
@@ -72,7 +72,8 @@ pub fn write_sector<T: Tape>(
         answer ≡ write_answer (view_at c segment sector))) }
     ensures size { T.means.size tape.new ≡ T.means.size tape.old }
 {
-    let sectors = sectors_with(sector, from);
+    let mut sectors = [[0; SECTOR]; 32];
+    put_alone(&mut sectors, sector, from);
     let blank = tape.write_sectors(segment, set_of(sector), &sectors)?;
     Ok(if blank.contains(sector) {
         SectorWrite::Blank

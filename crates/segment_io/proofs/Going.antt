@@ -1,5 +1,5 @@
 -- How a call goes to its segment and through its sectors.
-use Rattle.std.proofs.Common.{◌≡◌, ℕ, ◌≤◌, sym, subst, arith, Option, Some, None, [], Result, Ok, Err, ◌*◌, ◌<◌, true}
+use Rattle.std.proofs.Common.{◌≡◌, ℕ, ◌+◌, ◌≤◌, sym, subst, arith, Option, Some, None, [], Result, Ok, Err, ◌*◌, ◌<◌, true}
 use Rattle.std.specs.Prelude.{IfSome, IsSomeAnd, OnOk}
 use Rattle.std.specs.Option.{option_map_or}
 use Rattle.qic_base.specs.Cartridge.{Cartridge}
@@ -11,6 +11,7 @@ use Rattle.cartridge_spec.specs.Shape.{usable_count}
 use Rattle.cartridge_laws.proofs.Segments.{count_of_whole}
 use Rattle.drive_spec.specs.declared.deck.Deck.{Deck}
 use Rattle.drive_spec.specs.declared.deck.Motion.{Motion}
+use Rattle.drive_spec.specs.declared.deck.Motion.TheVariants.{Stopped, Streaming, Seeking}
 use Rattle.drive_spec.specs.Terms.{is_referenced}
 use Rattle.drive_states.specs.Reach.{StreamsTo, IsUnder}
 use Rattle.drive_states.specs.Sound.{HasLength}
@@ -26,6 +27,15 @@ under_first segment d at = record {
   streams = let none : 0 ≤ 0 = omega arith in subst (λ (motion : Motion). StreamsTo motion 0) (sym at.motion) none;
   here = at.here;
 }
+
+-- what lies before a sector lies before the next
+pub under_next : (segment index : ℕ) (d : Deck) → IsUnder d segment index → IsUnder d segment (index + 1)
+under_next segment index d under = record { streams = by_motion d.motion under.streams; here = under.here }
+  where
+    by_motion : (motion : Motion) → StreamsTo motion index → StreamsTo motion (index + 1)
+    by_motion Stopped streams = absurd streams
+    by_motion (Streaming next) streams = omega arith
+    by_motion (Seeking left) streams = absurd streams
 
 -- the segments of the header copies and of the volume table have 32 usable sectors
 pub front_segment : {T : Type 0} {m : Meaning T} {h : Host} {u : UnitView T} (segment : ℕ) → Fits m h u →
@@ -72,7 +82,3 @@ tells_then m s P Q follows told = by_cases (m.told s) follows told
 pub OnOk-then : {A E : Type 0} (r : Result A E) (P Q : Type 0) → (P → Q) → OnOk r P → OnOk r Q
 OnOk-then (Ok x) P Q follows fact = follows fact
 OnOk-then (Err e) P Q follows fact = tt
-
-pub OnOk-always : {A E : Type 0} (r : Result A E) (P : Type 0) → P → OnOk r P
-OnOk-always (Ok x) P fact = fact
-OnOk-always (Err e) P fact = tt

@@ -1,15 +1,16 @@
 -- What gathered cells say: the lost places are as many as the unreadable cells, and the code blocks of the sectors that
 -- are not lost are those of the cells.
-use Rattle.std.proofs.Common.{◌≡◌, ℕ, zero, suc, ◌+◌, ◌-◌, ◌<◌, ◌≤◌, refl, sym, ◌∙◌, ap, subst, ◌↔◌, Result, Err, arith, Bool, true, false}
-use Rattle.std.proofs.Common.{List, [], ◌∷◌, length, take, slice_get, Some}
-use Rattle.std.proofs.lemmas.Bool.{ne_eqb, false≢true}
-use Rattle.std.proofs.lemmas.List.{length-take-le}
+use Rattle.std.proofs.Common.{◌≡◌, ℕ, zero, suc, ◌+◌, ◌-◌, ◌<◌, ◌≤◌, refl, sym, ◌∙◌, ap, subst, Result, Ok, Err, arith, Bool, true, false}
+use Rattle.std.proofs.Common.{List, [], ◌∷◌, ◌++◌, length, take, slice_get, Some, inl, inr}
+use Rattle.std.proofs.lemmas.Bool.{ne_eqb, false≢true, cases_lt}
+use Rattle.std.proofs.lemmas.List.{length-take-le, take-append-le, take_all}
 use Rattle.std.proofs.lemmas.Option.{slice_get_within}
 use Rattle.qic_base.specs.Cartridge.{lost_places}
 use Rattle.qic_base.proofs.LostSetLaws.{lost_places-above}
 use Rattle.qic_base.specs.declared.tape.SectorView.{SectorView}
 use Rattle.qic_base.specs.declared.tape.SectorView.TheVariants.{Blank, Defect, Lost, Holds}
 use Rattle.cartridge_spec.specs.Code.{IsCodeBlock}
+use Rattle.cartridge_spec.specs.Shape.{usable_count}
 use Rattle.gf256_qic.specs.Code.{AgreesOutside, IsSolvable}
 use Rattle.erasure_solve.specs.Lost.{lost_count}
 use Rattle.erasure_solve.proofs.Places.{is_lost_from, lost_below-places}
@@ -19,7 +20,7 @@ use Rattle.cartridge_laws.proofs.Cells.{unreadable_at, readable_at, lost_below-c
 use Rattle.segment_io.specs.Gathered.{IsUnreadableAt, NamesUnreadable, Gathered}
 use Rattle.segment_io.specs.declared.fault.SegFault.{SegFault}
 use Rattle.segment_io.specs.declared.fault.SegFault.TheVariants as fault
-use Rattle.segment_io.specs.Reading.{HasSolved}
+use Rattle.segment_io.specs.Reading.{HasSolved, IsSolved, Solves}
 use Rattle.segment_io.proofs.GatheredCells.{lost_within}
 use Rattle.qic_base.specs.CartridgeTerms.{is_lost}
 use Rattle.gf256_qic.proofs.Agreement.{lost_below-same}
@@ -137,29 +138,79 @@ says_mismatch cells lost n sectors count few room g at_most unsolvable =
       }),
     )
 
--- ---- an answer of lost sectors
+-- ---- what a solving answers
 
-abbrev pub AnswersLost : {A : Type 0} → Result A SegFault → (segment count : ℕ) → Type 0
-AnswersLost result segment count =
-    (named n : ℕ) → (result ≡ Err (fault.Lost named n)) ↔ ((named ≡ segment) × (count ≡ n) × (3 < n))
+-- the first of a list's two parts
+pub take_front : {A : Type 0} (n : ℕ) (front rest : List A) → length front ≡ n → take n (front ++ rest) ≡ front
+take_front n front rest long = take-append-le n front rest (omega arith) ∙ take_all n front (omega arith)
 
-pub answers_lost : {A : Type 0} (result : Result A SegFault) (segment count lost : ℕ) → result ≡ Err (fault.Lost segment lost) →
-    count ≡ lost → 3 < lost → AnswersLost result segment count
-answers_lost result segment count lost is all many named n = (
-  λ e.
-      let same : Err (fault.Lost segment lost) ≡ Err (fault.Lost named n) = sym is ∙ e in
-      let one : segment ≡ named = cc in
-      let two : lost ≡ n = cc in
-      (sym one, all ∙ two, omega arith),
-  λ h.
-      let one : named ≡ segment = h.0 in
-      let two : lost ≡ n = sym all ∙ h.1 in
-      cc,
-)
+-- the sectors are a code block, ..
+pub solved_block : (segment usable lost : ℕ) (old new first block : List (List ℕ)) → take (usable_count usable) old ≡ first →
+    take (usable_count usable) new ≡ block → lost_count lost ≤ 3 → IsSolvable (is_lost lost) first → IsCodeBlock block →
+    AgreesOutside (is_lost lost) first block → IsSolved segment usable lost old new (Ok tt)
+solved_block segment usable lost old new first block was is few solvable code agrees = record {
+  block = subst IsCodeBlock (sym is) code;
+  others = rw (was, is) agrees;
+  many = λ named n. (λ e. absurd (cc), λ h. absurd (omega (arith, h.1, h.2)));
+  mismatch = λ named. (λ e. absurd (cc), λ h. absurd (h.2 (subst (IsSolvable (is_lost lost)) (sym was) solvable)));
+  unchanged = tt;
+}
 
-pub answers_not_lost : {A : Type 0} (result : Result A SegFault) (segment count : ℕ) →
-    ((named n : ℕ) → result ≡ Err (fault.Lost named n) → ⊥) → count ≤ 3 → AnswersLost result segment count
-answers_not_lost result segment count other few named n = (
-  λ e. absurd (other named n e),
-  λ h. absurd (omega (arith, h.1, h.2)),
-)
+-- .. too many are lost, ..
+pub solved_lost : (segment usable lost count : ℕ) (old new : List (List ℕ)) → lost_count lost ≡ count → 3 < count → new ≡ old →
+    IsSolved segment usable lost old new (Err (fault.Lost segment count))
+solved_lost segment usable lost count old new all many same = record {
+  block = tt;
+  others = tt;
+  many = λ named n. (
+    λ e.
+        let one : segment ≡ named = cc in
+        let two : count ≡ n = cc in
+        (sym one, all ∙ two, omega arith),
+    λ h.
+        let one : named ≡ segment = h.0 in
+        let two : count ≡ n = sym all ∙ h.1 in
+        cc,
+  );
+  mismatch = λ named. (λ e. absurd (cc), λ h. absurd (omega (arith, h.1)));
+  unchanged = same;
+}
+
+-- .. or no code block agrees
+pub solved_mismatch : (segment usable lost : ℕ) (old new first : List (List ℕ)) → take (usable_count usable) old ≡ first →
+    lost_count lost ≤ 3 → (IsSolvable (is_lost lost) first → ⊥) → new ≡ old →
+    IsSolved segment usable lost old new (Err (fault.Mismatch segment))
+solved_mismatch segment usable lost old new first was few unsolvable same = record {
+  block = tt;
+  others = tt;
+  many = λ named n. (λ e. absurd (cc), λ h. absurd (omega (arith, h.1, h.2)));
+  mismatch = λ named. (
+    λ e.
+        let one : segment ≡ named = cc in
+        (sym one, few, λ is. unsolvable (subst (IsSolvable (is_lost lost)) was is)),
+    λ h.
+        let one : named ≡ segment = h.0 in
+        cc,
+  );
+  unchanged = same;
+}
+
+-- so the cells say it that were gathered
+pub solving_says : (segment usable lost : ℕ) (cells : List SectorView) (old new : List (List ℕ)) (answer : Result (Unit {0}) SegFault) →
+    usable_count usable ≤ 32 → usable_count usable ≤ length old → length cells ≡ usable_count usable → Gathered cells lost old →
+    IsSolved segment usable lost old new answer → Solves segment cells new answer
+solving_says segment usable lost cells old new (Ok x) most room count g s =
+    let few : lost_count lost ≤ 3 =
+    elim (cases_lt 3 (lost_count lost)) [
+      | inl many ↦
+          let e : Ok x ≡ Err (fault.Lost segment (lost_count lost)) = (s.many segment (lost_count lost)).1 (refl, refl, many) in
+          absurd (cc)
+      | inr few ↦ few
+    ] in
+    says_data cells lost (usable_count usable) old new count most room g few s.block s.others
+solving_says segment usable lost cells old new (Err (fault.Lost named n)) most room count g s =
+    let told = (s.many named n).0 refl in
+    (told.0, says_lost cells lost n (omega arith) g.unreadable told.1 told.2)
+solving_says segment usable lost cells old new (Err (fault.Mismatch named)) most room count g s =
+    let told = (s.mismatch named).0 refl in
+    (told.0, says_mismatch cells lost (usable_count usable) old count most room g told.1 told.2)

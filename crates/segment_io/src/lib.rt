@@ -10,7 +10,7 @@ mod solving;
 mod workspace;
 mod writing;
 
-pub use fault::{SegFault, StoreFault};
+pub use fault::SegFault;
 pub use reading::{collect, read_segment};
 pub use solving::solve_collected;
 pub use workspace::Workspace;

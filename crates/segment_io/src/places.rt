@@ -1,13 +1,13 @@
 //! The usable sectors of a segment, between their indexes and the first places of a workspace.
 
-ghost use Rattle.std.specs.Prelude.{◌≡◌, ◌<◌, ◌^◌, ℕ, List, [], get_or, length, map, set, IfSome};
+ghost use Rattle.std.specs.Prelude.{◌≡◌, ◌<◌, ◌^◌, ℕ, List, [], get_or, length, map, set};
 ghost use Rattle.cartridge_spec.specs.Shape.{usable_count, usable_places};
 ghost use Rattle.qic_base.specs.TapeCalls.{ReadsSectors, chosen};
 ghost use Rattle.qic_base.specs.declared.tape.SectorView.{SectorView};
 ghost use Rattle.segment_io.specs.Gathered.{Gathered};
 ghost use Rattle.segment_io.specs.Writes.{first_sectors};
 
-use qic_base::{LostSet, SECTOR, SECTORS, Sector, WHOLE};
+use qic_base::{LostSet, SECTOR, SECTORS, Sector};
 
 /// Copies a sector to a place, where it stands elsewhere.
 fn move_to(sectors: &mut [Sector], place: u8, index: u8)
@@ -21,8 +21,7 @@ fn move_to(sectors: &mut [Sector], place: u8, index: u8)
 }
 
 /// Moves the usable sectors to the front, in order of index. The answer is the places there of those that are not good.
-pub(crate) fn gather(sectors: &mut [Sector], usable: u32, good: LostSet) -> LostSet
-    requires room { length sectors.old ≡ 32 }
+pub(crate) fn gather(sectors: &mut [Sector; 32], usable: u32, good: LostSet) -> LostSet
     ensures gathered { (blank : ℕ) (view : ℕ → SectorView) (before : List (List ℕ)) →
         ReadsSectors usable good blank view before sectors.old →
         Gathered (map view (usable_places usable)) result sectors.new }
@@ -43,20 +42,8 @@ pub(crate) fn gather(sectors: &mut [Sector], usable: u32, good: LostSet) -> Lost
     LostSet::from_mask(lost)
 }
 
-/// The same sectors as an array, where each is usable, so that each stands at its index.
-pub(crate) fn at_indexes(sectors: &[Sector], usable: u32) -> Option<&[Sector; 32]>
-    requires room { length sectors.now ≡ 32 }
-    ensures { IfSome result (λ entries. chosen usable entries.now ≡ first_sectors usable sectors.now) }
-{
-    if usable != WHOLE {
-        return None;
-    }
-    sectors.as_array()
-}
-
 /// The usable sectors, which stand at the front in order of index, each at its index. The others are of zero bytes.
-pub(crate) fn spread(sectors: &[Sector], usable: u32) -> [Sector; 32]
-    requires room { length sectors.now ≡ 32 }
+pub(crate) fn spread(sectors: &[Sector; 32], usable: u32) -> [Sector; 32]
     ensures { chosen usable result ≡ first_sectors usable sectors.now }
 {
     let mut spread = [[0; SECTOR]; 32];

@@ -1,15 +1,13 @@
 //! A segment read.
 
-ghost use Rattle.std.specs.Prelude.{◌≡◌, ◌≢◌, ◌<◌, ◌≤◌, ◌^◌, ℕ, [], true, length, take, IfOk, OnOk};
+ghost use Rattle.std.specs.Prelude.{◌≡◌, ◌<◌, ◌^◌, [], length, IfOk};
 ghost use Rattle.qic_base.specs.TapeCalls.{Does, Tells};
-ghost use Rattle.cartridge_spec.specs.Code.{IsCodeBlock};
 ghost use Rattle.cartridge_spec.specs.Shape.{usable_count};
 ghost use Rattle.cartridge_spec.specs.Says.{cells_of};
-ghost use Rattle.drive_states.specs.Reach.{reads_in};
-ghost use Rattle.host_driver.specs.Calls.{IsReady, Keeps};
-ghost use Rattle.segment_io.specs.Calls.{HasSegment};
+ghost use Rattle.host_driver.specs.Calls.{Keeps};
+ghost use Rattle.segment_io.specs.Calls.{CanRead};
 ghost use Rattle.segment_io.specs.Gathered.{Gathered, NamesUnreadable};
-ghost use Rattle.segment_io.specs.Reading.{OnlyReads, Solves};
+ghost use Rattle.segment_io.specs.Reading.{Solves, IsRead};
 
 use crate::fault::SegFault;
 use crate::places::gather;
@@ -17,10 +15,11 @@ use crate::solving::solve_collected;
 use crate::workspace::Workspace;
 use drive_states::Unit;
 use host_driver::Host;
-use qic_base::{LostSet, Sector, Tape, TapeFailed};
+use qic_base::{LostSet, Tape, TapeFailed};
 
 /// Reads the usable sectors of a segment into the first places of the workspace, ascending: bit `i` of `usable` stands
 /// for sector `i`. The answer is the places of those that can't be read.
+#[tactic(auto, using(qic_base::proofs::Steps::joins))]
 pub fn collect<T: Tape>(
     host: &mut Host,
     unit: &mut Unit<T>,
@@ -28,9 +27,7 @@ pub fn collect<T: Tape>(
     usable: u32,
     work: &mut Workspace,
 ) -> Result<LostSet, TapeFailed>
-    requires ready { IsReady T.means host.old unit.old }
-    requires segment { HasSegment unit.old.drive.deck segment usable }
-    requires mode { reads_in unit.old.drive.deck.mode ≡ true }
+    requires { CanRead T.means host.old unit.old segment usable }
     ensures did { Does T.means unit.old.tape unit.new.tape [] result }
     ensures gathered { IfOk result (λ lost. Tells T.means unit.old.tape (λ c.
         Gathered (cells_of c segment usable) lost work.new)) }
@@ -39,33 +36,11 @@ pub fn collect<T: Tape>(
     ensures room { length work.new ≡ 32 }
     ensures keeps { Keeps T.means host.new unit.old unit.new }
 {
-    collect_into(host, unit, segment, usable, &mut work.sectors)
-}
-
-/// As `collect`, into 32 sectors.
-#[tactic(auto, using(qic_base::proofs::Steps::joins))]
-fn collect_into<T: Tape>(
-    host: &mut Host,
-    unit: &mut Unit<T>,
-    segment: u32,
-    usable: u32,
-    sectors: &mut [Sector],
-) -> Result<LostSet, TapeFailed>
-    requires ready { IsReady T.means host.old unit.old }
-    requires segment { HasSegment unit.old.drive.deck segment usable }
-    requires mode { reads_in unit.old.drive.deck.mode ≡ true }
-    requires room { length sectors.old ≡ 32 }
-    ensures did { Does T.means unit.old.tape unit.new.tape [] result }
-    ensures gathered { IfOk result (λ lost. Tells T.means unit.old.tape (λ c.
-        Gathered (cells_of c segment usable) lost sectors.new)) }
-    ensures within { IfOk result (λ lost. lost < 2 ^ usable_count usable) }
-    ensures keeps { Keeps T.means host.new unit.old unit.new }
-{
     host.go_to(unit, segment);
-    let read = match sectors.as_mut_array() {
-        Some(entries) => host.read_sectors(unit, segment, LostSet::from_mask(usable), entries)?,
-        None => unreachable!("there are 32 sectors"),
+    let Some(sectors) = work.sectors.as_mut_array() else {
+        unreachable!("there are 32 sectors")
     };
+    let read = host.read_sectors(unit, segment, LostSet::from_mask(usable), sectors)?;
     Ok(gather(sectors, usable, read.good))
 }
 
@@ -77,26 +52,21 @@ pub fn read_segment<T: Tape>(
     segment: u32,
     usable: u32,
     work: &mut Workspace,
-) -> Result<LostSet, SegFault>
-    requires ready { IsReady T.means host.old unit.old }
-    requires segment { HasSegment unit.old.drive.deck segment usable }
-    requires mode { reads_in unit.old.drive.deck.mode ≡ true }
-    ensures did { OnlyReads T.means unit.old.tape unit.new.tape result }
-    ensures solves { result ≢ Err SegFault.Tape → Tells T.means unit.old.tape (λ c.
-        Solves segment (cells_of c segment usable) work.new result) }
-    ensures unreadable { IfOk result (λ lost. Tells T.means unit.old.tape (λ c.
-        NamesUnreadable (cells_of c segment usable) lost)) }
+) -> Result<Result<LostSet, SegFault>, TapeFailed>
+    requires { CanRead T.means host.old unit.old segment usable }
+    ensures did { Does T.means unit.old.tape unit.new.tape [] result }
+    ensures solves { IfOk result (λ read. Tells T.means unit.old.tape (λ c.
+        Solves segment (cells_of c segment usable) work.new read)) }
+    ensures unreadable { IfOk result (λ read. IfOk read (λ lost. Tells T.means unit.old.tape (λ c.
+        NamesUnreadable (cells_of c segment usable) lost))) }
     // And where the tape tells nothing:
-    ensures within { IfOk result (λ lost. lost < 2 ^ usable_count usable) }
-    ensures block { OnOk result (IsCodeBlock (take (usable_count usable) work.new)) }
-    ensures many { (named n : ℕ) → result ≡ Err (SegFault.Lost named n) →
-        (named ≡ segment) × (3 < n) × (n ≤ 32) }
-    ensures mismatch { (named : ℕ) → result ≡ Err (SegFault.Mismatch named) →
-        named ≡ segment }
+    ensures read { IfOk result (IsRead segment usable work.new) }
     ensures room { length work.new ≡ 32 }
     ensures keeps { Keeps T.means host.new unit.old unit.new }
 {
     let lost = collect(host, unit, segment, usable, work)?;
-    solve_collected(segment, usable, lost, work)?;
-    Ok(lost)
+    match solve_collected(segment, usable, lost, work) {
+        Ok(()) => Ok(Ok(lost)),
+        Err(fault) => Ok(Err(fault)),
+    }
 }

@@ -1,22 +1,20 @@
 //! A segment written.
 
-ghost use Rattle.std.specs.Prelude.{◌≡◌, ◌<◌, ◌+◌, ◌^◌, ◌++◌, [], ◌∷◌, length, drop, OnOk};
-ghost use Rattle.qic_base.specs.Cartridge.{lost_places};
-ghost use Rattle.qic_base.specs.Step.{WriteSectors, write_sector};
-ghost use Rattle.qic_base.specs.TapeCalls.{Does, chosen};
-ghost use Rattle.cartridge_spec.specs.Shape.{sector_at, usable_count};
-ghost use Rattle.drive_states.specs.Reach.{IsUnder};
-ghost use Rattle.host_driver.specs.Calls.{IsReady, MayWrite, Keeps};
-ghost use Rattle.segment_io.specs.Calls.{HasSegment};
-ghost use Rattle.segment_io.specs.Writes.{first_sectors, named_write, usable_write};
+ghost use Rattle.std.specs.Prelude.{◌≡◌, ◌<◌, ◌^◌, ◌++◌, [], ◌∷◌, drop};
+ghost use Rattle.qic_base.specs.Step.{WriteSectors};
+ghost use Rattle.qic_base.specs.TapeCalls.{Does};
+ghost use Rattle.cartridge_spec.specs.Shape.{usable_count};
+ghost use Rattle.host_driver.specs.Calls.{Keeps};
+ghost use Rattle.segment_io.specs.Calls.{CanWrite, CanWriteFrom};
+ghost use Rattle.segment_io.specs.Writes.{first_sectors};
 ghost use Rattle.cartridge_laws.specs.Writes.{block_in, segment_writes, named_writes};
 
-use crate::places::{at_indexes, spread};
+use crate::places::spread;
 use crate::shape::count_usable;
 use crate::workspace::Workspace;
 use drive_states::Unit;
 use host_driver::Host;
-use qic_base::{LostSet, SECTORS, Sector, Tape, TapeFailed};
+use qic_base::{LostSet, SECTORS, Sector, Tape, TapeFailed, WHOLE};
 use segment_parity::put_parity;
 
 /// Writes all usable sectors of a segment by one call: the data in the workspace, at the places before the last three, and
@@ -28,41 +26,60 @@ pub fn write_segment<T: Tape>(
     usable: u32,
     work: &mut Workspace,
 ) -> Result<(), TapeFailed>
-    requires ready { IsReady T.means host.old unit.old }
-    requires segment { HasSegment unit.old.drive.deck segment usable }
-    requires writable { MayWrite unit.old.drive.deck }
+    requires { CanWrite T.means host.old unit.old segment usable }
     ensures did { Does T.means unit.old.tape unit.new.tape
         (segment_writes segment usable work.old) result }
     ensures parity { work.new ≡ block_in usable work.old ++ drop (usable_count usable) work.old }
     ensures keeps { Keeps T.means host.new unit.old unit.new }
 {
     let data = count_usable(usable) - 3;
-    put_parity(&mut work.sectors, usize::from(data));
+    let Some(sectors) = work.sectors.as_mut_array() else {
+        unreachable!("there are 32 sectors")
+    };
+    put_parity(sectors, usize::from(data));
     host.go_to(unit, segment);
-    write_first(host, unit, segment, usable, &work.sectors)
+    write_first(host, unit, segment, usable, sectors)
 }
 
 /// Writes the usable sectors from the first places by one call.
+#[tactic(auto, using(crate::proofs::ChosenSectors::chosen_of_whole))]
 fn write_first<T: Tape>(
     host: &mut Host,
     unit: &mut Unit<T>,
     segment: u32,
     usable: u32,
-    sectors: &[Sector],
+    sectors: &[Sector; 32],
 ) -> Result<(), TapeFailed>
-    requires ready { IsReady T.means host.old unit.old }
-    requires writable { MayWrite unit.old.drive.deck }
-    requires under { IsUnder unit.old.drive.deck segment 0 }
-    requires room { length sectors.now ≡ 32 }
+    requires { CanWriteFrom T.means host.old unit.old segment 0 }
     ensures did { Does T.means unit.old.tape unit.new.tape
         (WriteSectors segment (first_sectors usable sectors.now) ∷ []) result }
     ensures keeps { Keeps T.means host.new unit.old unit.new }
 {
     let written = LostSet::from_mask(usable);
-    match at_indexes(sectors, usable) {
-        Some(entries) => host.write_sectors(unit, segment, written, entries)?,
-        None => host.write_sectors(unit, segment, written, &spread(sectors, usable))?,
-    };
+    if usable == WHOLE {
+        host.write_sectors(unit, segment, written, sectors)?;
+        Ok(())
+    } else {
+        write_spread(host, unit, segment, usable, sectors)
+    }
+}
+
+/// As `write_first`, where not all sectors are usable: the room for them at their indexes is taken only then.
+#[inline(never)]
+fn write_spread<T: Tape>(
+    host: &mut Host,
+    unit: &mut Unit<T>,
+    segment: u32,
+    usable: u32,
+    sectors: &[Sector; 32],
+) -> Result<(), TapeFailed>
+    requires { CanWriteFrom T.means host.old unit.old segment 0 }
+    ensures did { Does T.means unit.old.tape unit.new.tape
+        (WriteSectors segment (first_sectors usable sectors.now) ∷ []) result }
+    ensures keeps { Keeps T.means host.new unit.old unit.new }
+{
+    let spread = spread(sectors, usable);
+    host.write_sectors(unit, segment, LostSet::from_mask(usable), &spread)?;
     Ok(())
 }
 
@@ -76,9 +93,7 @@ pub fn write_sectors<T: Tape>(
     places: LostSet,
     work: &Workspace,
 ) -> Result<(), TapeFailed>
-    requires ready { IsReady T.means host.old unit.old }
-    requires segment { HasSegment unit.old.drive.deck segment usable }
-    requires writable { MayWrite unit.old.drive.deck }
+    requires can { CanWrite T.means host.old unit.old segment usable }
     requires within { places < 2 ^ usable_count usable }
     ensures did { Does T.means unit.old.tape unit.new.tape
         (named_writes segment usable places work.now) result }
@@ -88,67 +103,12 @@ pub fn write_sectors<T: Tape>(
     let sectors = work.sectors();
     let mut place = 0;
     for index in 0..SECTORS {
-        write_usable(
-            host, unit, segment, usable, index, places, &mut place, sectors,
-        )?;
-    }
-    Ok(())
-}
-
-/// Writes the sector with this index from its place, where it is usable and the set has that place.
-#[tactic(auto, using(cartridge_laws::proofs::Places::count_below))]
-fn write_usable<T: Tape>(
-    host: &mut Host,
-    unit: &mut Unit<T>,
-    segment: u32,
-    usable: u32,
-    index: u8,
-    places: LostSet,
-    place: &mut u8,
-    sectors: &[Sector],
-) -> Result<(), TapeFailed>
-    requires ready { IsReady T.means host.old unit.old }
-    requires writable { MayWrite unit.old.drive.deck }
-    requires under { IsUnder unit.old.drive.deck segment index }
-    requires index { index < 32 }
-    requires room { length sectors.now ≡ 32 }
-    requires place { place.old ≡ length (lost_places usable index) }
-    ensures did { Does T.means unit.old.tape unit.new.tape
-        (usable_write segment usable index places place.old sectors.now) result }
-    ensures place { OnOk result (place.new ≡ length (lost_places usable (index + 1))) }
-    ensures under { IsUnder unit.new.drive.deck segment (index + 1) }
-    ensures keeps { Keeps T.means host.new unit.old unit.new }
-{
-    if !LostSet::from_mask(usable).contains(index) {
-        return Ok(());
-    }
-    let here = *place;
-    *place += 1;
-    write_named(host, unit, segment, index, places, here, sectors)
-}
-
-/// Writes the sector with this index from its place, where the set has that.
-fn write_named<T: Tape>(
-    host: &mut Host,
-    unit: &mut Unit<T>,
-    segment: u32,
-    index: u8,
-    places: LostSet,
-    place: u8,
-    sectors: &[Sector],
-) -> Result<(), TapeFailed>
-    requires ready { IsReady T.means host.old unit.old }
-    requires writable { MayWrite unit.old.drive.deck }
-    requires under { IsUnder unit.old.drive.deck segment index }
-    requires index { index < 32 }
-    requires room { place < length sectors.now }
-    ensures did { Does T.means unit.old.tape unit.new.tape
-        (named_write segment index places place sectors.now) result }
-    ensures under { IsUnder unit.new.drive.deck segment (index + 1) }
-    ensures keeps { Keeps T.means host.new unit.old unit.new }
-{
-    if places.contains(place) {
-        host.write_sector(unit, segment, index, &sectors[place as usize])?;
+        if LostSet::from_mask(usable).contains(index) {
+            if places.contains(place) {
+                host.write_sector(unit, segment, index, &sectors[place as usize])?;
+            }
+            place += 1;
+        }
     }
     Ok(())
 }

@@ -15,8 +15,8 @@ use Rattle.qic_base.proofs.Joins.{steps_of-append, text_of-append, nothing_went,
 use Rattle.cartridge_spec.specs.Settling.{changed_by}
 use Rattle.command_spec.specs.Scrub.{Looked, Counts, unread_count, Finding, FindInTurn, finding_acts, lines_for, sayings_of}
 use Rattle.command_spec.specs.declared.depth.Depth.{Depth}
-use Rattle.segment_io.specs.declared.fault.StoreFault.{StoreFault}
-use Rattle.segment_io.specs.declared.fault.StoreFault.TheVariants as fault
+use Rattle.qic_base.specs.declared.store_fault.StoreFault.{StoreFault}
+use Rattle.qic_base.specs.declared.store_fault.StoreFault.TheVariants as fault
 use Rattle.segment_mending.specs.declared.progress.Progress.{Progress}
 use Rattle.segment_mending.specs.Looking.{AreActs, Counted, HasLooked, LookingCut, Looks, HasFew}
 use Rattle.segment_mending.specs.Mending.{reported}

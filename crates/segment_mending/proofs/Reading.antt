@@ -20,7 +20,7 @@ use Rattle.command_laws.proofs.ScrubNamed.{steps_by_places, count_of_named}
 use Rattle.command_laws.proofs.ScrubOneWrong.{finds_one}
 use Rattle.segment_mending.specs.Lines.{header_line}
 use Rattle.segment_io.proofs.Going.{tells_always}
-use Rattle.segment_io.specs.declared.fault.StoreFault.{StoreFault}
+use Rattle.qic_base.specs.declared.store_fault.StoreFault.{StoreFault}
 use Rattle.segment_mending.specs.declared.locating.Found.TheVariants.{Reads, Fails}
 use Rattle.segment_mending.specs.declared.locating.Unread.{Unread}
 use Rattle.segment_mending.specs.Locating.{data_in, unread_saying, finding_of, IsFoundBy, MayBeWrong, MayMend, mending, GoesAs}
@@ -31,7 +31,7 @@ use Rattle.qic_base.specs.Sink as sinks
 use Rattle.qic_base.specs.SinkCalls as sink_calls
 use Rattle.qic_base.specs.Tape as tapes
 use Rattle.qic_base.specs.TapeCalls as tape_calls
-use Rattle.segment_io.specs.declared.fault.StoreFault.TheVariants as fault
+use Rattle.qic_base.specs.declared.store_fault.StoreFault.TheVariants as fault
 
 -- ---- the act
 

@@ -12,7 +12,7 @@ use Rattle.command_spec.specs.Scrub.{finding_acts, sayings_of, whole_segment, lo
 use Rattle.command_laws.specs.ScrubTerms.{last_act, counts_for}
 use Rattle.command_spec.specs.declared.depth.Depth.{Depth}
 use Rattle.command_laws.proofs.ScrubOneWrong.{form_is_function}
-use Rattle.segment_io.specs.declared.fault.StoreFault.{StoreFault}
+use Rattle.qic_base.specs.declared.store_fault.StoreFault.{StoreFault}
 use Rattle.segment_mending.specs.declared.progress.Progress.{Progress}
 use Rattle.segment_mending.specs.declared.report.ScrubReport.{ScrubReport}
 use Rattle.segment_mending.specs.Looking.{Counted, HasLooked, LookingCut, Looks}
@@ -21,7 +21,7 @@ use Rattle.segment_mending.proofs.Joining.{looked_both}
 use Rattle.qic_base.specs.Sink as sinks
 use Rattle.qic_base.specs.SinkCalls as sink_calls
 use Rattle.qic_base.specs.Tape as tapes
-use Rattle.segment_io.specs.declared.fault.StoreFault.TheVariants as fault
+use Rattle.qic_base.specs.declared.store_fault.StoreFault.TheVariants as fault
 
 -- nothing is counted yet
 abbrev pub none_counted : Counts

@@ -14,7 +14,7 @@ use Rattle.qic_base.specs.Alone.{no_source}
 use Rattle.qic_base.specs.Cartridge.{Cartridge}
 use Rattle.qic_base.specs.declared.tape.SectorView.{SectorView}
 use Rattle.segment_io.specs.Gathered.{NamesUnreadable}
-use Rattle.segment_io.specs.declared.fault.StoreFault.{StoreFault}
+use Rattle.qic_base.specs.declared.store_fault.StoreFault.{StoreFault}
 use Rattle.segment_mending.specs.declared.locating.Found.{Found}
 use Rattle.segment_mending.specs.declared.locating.Found.TheVariants.{Reads, Fails}
 use Rattle.segment_mending.specs.declared.locating.Unread.{Unread}
@@ -26,7 +26,7 @@ use Rattle.cartridge_spec.specs.Says as saying
 use Rattle.qic_base.specs.Sink as sinks
 use Rattle.qic_base.specs.Tape as tapes
 use Rattle.qic_base.specs.TapeCalls as tape_calls
-use Rattle.segment_io.specs.declared.fault.StoreFault.TheVariants as cuts
+use Rattle.qic_base.specs.declared.store_fault.StoreFault.TheVariants as cuts
 use Rattle.silent_locate.specs.Deep as deep
 use Rattle.silent_locate.specs.declared.LocateFault.TheVariants as fault
 

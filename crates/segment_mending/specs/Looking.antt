@@ -7,10 +7,10 @@ use Rattle.qic_base.specs.Acts.{Act, steps_of, text_of, Outside, Failing, TapeFa
 use Rattle.qic_base.specs.Alone.{no_source}
 use Rattle.command_spec.specs.Scrub.{Looked, Counts, unread_count, Finding, FindInTurn, MayBeFound, finding_acts, lines_for, sayings_of}
 use Rattle.command_spec.specs.declared.depth.Depth.{Depth}
-use Rattle.segment_io.specs.declared.fault.StoreFault.{StoreFault}
+use Rattle.qic_base.specs.declared.store_fault.StoreFault.{StoreFault}
 use Rattle.segment_mending.specs.Mending.{reported}
 use Rattle.segment_mending.specs.declared.progress.Progress.{Progress}
-use Rattle.segment_io.specs.declared.fault.StoreFault.TheVariants as fault
+use Rattle.qic_base.specs.declared.store_fault.StoreFault.TheVariants as fault
 
 -- This is found of these segments, on the cartridge that the tape tells, and these are their acts; over any tape the acts
 -- print what belongs to these findings.

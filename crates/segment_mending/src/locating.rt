@@ -1,6 +1,6 @@
 //! One segment read, and what is found of it.
 
-ghost use Rattle.std.specs.Prelude.{◌≡◌, ◌<◌, ◌≤◌, ◌^◌, ℕ, [], true, length, take, Some, None, IfOk};
+ghost use Rattle.std.specs.Prelude.{◌≡◌, ◌<◌, ◌≤◌, ◌^◌, ℕ, [], length, take, Some, None, IfOk};
 ghost use Rattle.qic_base.specs.Cartridge.{Cartridge};
 ghost use Rattle.qic_base.specs.TapeCalls.{Does};
 ghost use Rattle.cartridge_laws.specs.Shape.{Carries};
@@ -11,9 +11,8 @@ ghost use Rattle.erasure_solve.specs.Lost.{lost_count};
 ghost use Rattle.cartridge_spec.specs.Shape.{usable_count};
 ghost use Rattle.command_spec.specs.Scrub.{reads};
 ghost use Rattle.command_spec.specs.declared.depth.Depth.{Depth};
-ghost use Rattle.drive_states.specs.Reach.{reads_in};
-ghost use Rattle.host_driver.specs.Calls.{IsReady, Keeps};
-ghost use Rattle.segment_io.specs.Calls.{HasSegment};
+ghost use Rattle.host_driver.specs.Calls.{Keeps};
+ghost use Rattle.segment_io.specs.Calls.{CanRead};
 ghost use Rattle.segment_io.specs.Gathered.{Gathered, NamesUnreadable};
 ghost use Rattle.segment_mending.specs.Locating.{Locates, data_in, HasBlock, IsDeep, Finds, IsFoundBy, MayBeBy, DeepFinds, DeepMayFind};
 ghost use Rattle.silent_locate.specs.Deep as deep;
@@ -58,9 +57,7 @@ pub(crate) fn find_in_segment<T: Tape>(
     usable: u32,
     work: &mut Workspace,
 ) -> Result<Found, TapeFailed>
-    requires ready { IsReady T.means host.old unit.old }
-    requires segment { HasSegment unit.old.drive.deck segment usable }
-    requires mode { reads_in unit.old.drive.deck.mode ≡ true }
+    requires can { CanRead T.means host.old unit.old segment usable }
     requires whole { segment < 2 → usable ≡ whole_mask }
     ensures did { Does T.means unit.old.tape unit.new.tape [] result }
     ensures found { IfOk result (λ found. Finds T.means unit.old.tape (IsDeep depth)
@@ -73,11 +70,10 @@ pub(crate) fn find_in_segment<T: Tape>(
             let lost = collect(host, unit, segment, usable, work)?;
             Ok(locate_collected(segment, usable, lost, work))
         }
-        Depth::Shallow => match read_segment(host, unit, segment, usable, work) {
+        Depth::Shallow => match read_segment(host, unit, segment, usable, work)? {
             Ok(lost) => Ok(found_block(segment, usable, lost, work)),
             Err(SegFault::Lost { lost, .. }) => Ok(Found::Fails(Unread::Lost(lost))),
             Err(SegFault::Mismatch { .. }) => Ok(Found::Fails(Unread::Mismatch)),
-            Err(SegFault::Tape) => Err(TapeFailed),
         },
     }
 }

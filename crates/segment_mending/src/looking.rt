@@ -3,9 +3,9 @@
 ghost use Rattle.std.specs.Prelude.{◌≡◌, ◌↔◌, ◌<◌, ◌^◌, ℕ, [], ◌∷◌};
 ghost use Rattle.qic_base.specs.Alone.{around};
 ghost use Rattle.cartridge_spec.specs.Says.{whole_mask};
-ghost use Rattle.host_driver.specs.Calls.{IsReady, MayWrite, Keeps};
+ghost use Rattle.host_driver.specs.Calls.{Keeps};
 ghost use Rattle.command_spec.specs.Scrub.{IsSearched};
-ghost use Rattle.segment_io.specs.Calls.{HasSegment};
+ghost use Rattle.segment_io.specs.Calls.{CanWrite};
 ghost use Rattle.segment_mending.specs.Locating.{IsDeep};
 ghost use Rattle.segment_mending.specs.Looking.{HasFew, Looks};
 ghost use Rattle.segment_mending.specs.Mending.{reported};
@@ -17,8 +17,8 @@ use crate::progress::Progress;
 use command_spec::Depth;
 use drive_states::Unit;
 use host_driver::Host;
-use qic_base::{Sink, Tape};
-use segment_io::{StoreFault, Workspace};
+use qic_base::{Sink, StoreFault, Tape};
+use segment_io::Workspace;
 use volume_table::TABLE_SEGMENT;
 
 /// The form in which a segment is read: no wrong sector is looked for in that of the volume table.
@@ -42,9 +42,7 @@ pub(crate) fn look_at<T: Tape, K: Sink>(
     sink: &mut K,
     progress: &mut Progress,
 ) -> Result<(), StoreFault>
-    requires ready { IsReady T.means host.old unit.old }
-    requires segment { HasSegment unit.old.drive.deck segment usable }
-    requires writable { MayWrite unit.old.drive.deck }
+    requires can { CanWrite T.means host.old unit.old segment usable }
     requires whole { segment < 2 → usable ≡ whole_mask }
     requires few { HasFew (2 ^ 26) (reported progress.old.report) }
     ensures looks { Looks T.means K.means (record { segment = segment; mask = usable } ∷ [])

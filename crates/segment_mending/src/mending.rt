@@ -6,8 +6,8 @@ ghost use Rattle.qic_base.specs.SinkCalls.{Writes};
 ghost use Rattle.qic_base.specs.TapeCalls.{Does};
 ghost use Rattle.cartridge_spec.specs.Shape.{usable_count};
 ghost use Rattle.cartridge_laws.specs.Writes.{named_writes};
-ghost use Rattle.host_driver.specs.Calls.{IsReady, MayWrite, Keeps};
-ghost use Rattle.segment_io.specs.Calls.{HasSegment};
+ghost use Rattle.host_driver.specs.Calls.{Keeps};
+ghost use Rattle.segment_io.specs.Calls.{CanWrite};
 ghost use Rattle.command_spec.specs.Scrub.{wrong_line};
 ghost use Rattle.segment_mending.specs.Locating.{mending, GoesAs};
 ghost use Rattle.segment_mending.specs.Looking.{HasFew, with_unread};
@@ -17,8 +17,8 @@ use crate::lines::wrong_text;
 use crate::report::ScrubReport;
 use drive_states::Unit;
 use host_driver::Host;
-use qic_base::{LostSet, Sink, SinkFailed, Tape, TapeFailed, write_text};
-use segment_io::{StoreFault, Workspace, write_sectors};
+use qic_base::{LostSet, Sink, SinkFailed, StoreFault, Tape, TapeFailed, write_text};
+use segment_io::{Workspace, write_sectors};
 use tape_script::TextLine;
 
 /// Writes the sectors at the lost places again. Where there are none, the tape stays where it is.
@@ -30,9 +30,7 @@ fn write_lost<T: Tape>(
     lost: LostSet,
     work: &Workspace,
 ) -> Result<(), TapeFailed>
-    requires ready { IsReady T.means host.old unit.old }
-    requires segment { HasSegment unit.old.drive.deck segment usable }
-    requires writable { MayWrite unit.old.drive.deck }
+    requires can { CanWrite T.means host.old unit.old segment usable }
     requires within { lost < 2 ^ usable_count usable }
     ensures did { Does T.means unit.old.tape unit.new.tape
         (named_writes segment usable lost work.now) result }
@@ -65,9 +63,7 @@ pub(crate) fn mend<T: Tape, K: Sink>(
     work: &Workspace,
     sink: &mut K,
 ) -> Result<(), StoreFault>
-    requires ready { IsReady T.means host.old unit.old }
-    requires segment { HasSegment unit.old.drive.deck segment usable }
-    requires writable { MayWrite unit.old.drive.deck }
+    requires can { CanWrite T.means host.old unit.old segment usable }
     requires within { lost < 2 ^ usable_count usable }
     ensures goes { GoesAs T.means K.means
         (mending (record { segment = segment; mask = usable }) lost wrong work.now)

@@ -5,7 +5,7 @@ ghost use Rattle.segment_mending.specs.Looking.{HasFew, with_mended, with_unread
 ghost use Rattle.segment_mending.specs.Mending.{reported};
 
 /// What a scrubbing counted.
-#[derive(Clone, Copy, Debug, PartialEq, Eq)]
+#[derive(Clone, Copy)]
 pub struct ScrubReport {
     /// The segments that were looked at.
     pub segments: u32,

@@ -19,8 +19,8 @@ use bad_sector_map::BadMap;
 use command_spec::Depth;
 use drive_states::Unit;
 use host_driver::Host;
-use qic_base::{Sink, Tape, WHOLE, write_text};
-use segment_io::{StoreFault, Workspace};
+use qic_base::{Sink, StoreFault, Tape, WHOLE, write_text};
+use segment_io::Workspace;
 use volume_table::{TABLE_SEGMENT, Table};
 
 /// Looks at both header copies and the table's segment.

@@ -1,11 +1,10 @@
 //! One segment searched for a wrong sector, and nothing of it written.
 
-ghost use Rattle.std.specs.Prelude.{◌≡◌, ◌<◌, [], true, length, IfOk};
+ghost use Rattle.std.specs.Prelude.{◌≡◌, ◌<◌, [], length, IfOk};
 ghost use Rattle.qic_base.specs.TapeCalls.{Does, Tells};
 ghost use Rattle.cartridge_spec.specs.Says.{whole_mask};
-ghost use Rattle.drive_states.specs.Reach.{reads_in};
-ghost use Rattle.host_driver.specs.Calls.{IsReady, Keeps};
-ghost use Rattle.segment_io.specs.Calls.{HasSegment};
+ghost use Rattle.host_driver.specs.Calls.{Keeps};
+ghost use Rattle.segment_io.specs.Calls.{CanRead};
 ghost use Rattle.segment_mending.specs.Searching.{SearchFinds, SearchMayFind, searched_of};
 
 use crate::locating::{Found, Unread, find_in_segment};
@@ -50,9 +49,7 @@ pub fn search_segment<T: Tape>(
     usable: u32,
     work: &mut Workspace,
 ) -> Result<Searched, TapeFailed>
-    requires ready { IsReady T.means host.old unit.old }
-    requires segment { HasSegment unit.old.drive.deck segment usable }
-    requires mode { reads_in unit.old.drive.deck.mode ≡ true }
+    requires can { CanRead T.means host.old unit.old segment usable }
     requires whole { segment < 2 → usable ≡ whole_mask }
     ensures did { Does T.means unit.old.tape unit.new.tape [] result }
     ensures found { IfOk result (λ searched. Tells T.means unit.old.tape (λ c.

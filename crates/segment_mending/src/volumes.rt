@@ -17,8 +17,8 @@ use crate::progress::Progress;
 use bad_sector_map::{BadMap, FEWEST};
 use drive_states::Unit;
 use host_driver::Host;
-use qic_base::{LostSet, Sink, Tape};
-use segment_io::{StoreFault, Workspace};
+use qic_base::{LostSet, Sink, StoreFault, Tape};
+use segment_io::Workspace;
 use volume_table::{Entry, Table};
 
 /// Looks at the segments of a volume that carry data, ascending.

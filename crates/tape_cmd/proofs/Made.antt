@@ -31,7 +31,7 @@ use Rattle.command_laws.specs.MadeTerms.{Makes}
 use Rattle.command_laws.specs.RunTerms.{EndsBlind}
 use Rattle.volume_store.specs.Mounting.{StoreView, IsOpened}
 use Rattle.command_laws.proofs.StoreTaking.{both_true}
-use Rattle.segment_io.specs.declared.fault.StoreFault.{StoreFault}
+use Rattle.qic_base.specs.declared.store_fault.StoreFault.{StoreFault}
 use Rattle.made_volumes.specs.Runs.{HasRun, MakeEnds, RunCut}
 use Rattle.command_spec.specs.declared.status.Status.{Status}
 use Rattle.host_commands.specs.Statuses.{store_status}
@@ -49,7 +49,7 @@ use Rattle.qic_base.specs.Sink as sinks
 use Rattle.qic_base.specs.Tape as tapes
 use Rattle.cartridge_spec.specs.Mounting as mounting
 use Rattle.command_spec.specs.declared.words.Words.TheVariants as words
-use Rattle.segment_io.specs.declared.fault.StoreFault.TheVariants as fault
+use Rattle.qic_base.specs.declared.store_fault.StoreFault.TheVariants as fault
 use Rattle.command_spec.specs.declared.status.Status.TheVariants as status
 
 -- ---- the answers of a run

@@ -46,7 +46,7 @@ fn to_create() -> OpenOptions
 }
 
 /// What is tried behind an opening for writing that failed.
-#[derive(Clone, Copy, PartialEq, Eq)]
+#[derive(Clone, Copy)]
 enum NextTry {
     /// There is no file: one is made.
     Create,

@@ -15,7 +15,7 @@ use qic_base::{Name, Source, SourceFailed};
 
 /// What was read in a line's place, with the number of bytes that it took: the end of the source before any byte;
 /// bytes that are no line; or a line, its newline counted.
-#[derive(Clone, Copy, Debug, PartialEq, Eq)]
+#[derive(Clone, Copy)]
 pub enum LineRead {
     End,
     Bad { read: u8 },

@@ -9,7 +9,7 @@ use qic_base::{Source, SourceFailed};
 use std::marker::Model;
 
 /// The bytes of a volume that `make` appends, as a source that never fails. Contracts see the bytes that are left.
-#[derive(Debug, Drop)]
+#[derive(Drop)]
 pub struct Made {
     next: u8,
     left: u32,

@@ -7,7 +7,7 @@ use qic_base::{Sink, SinkFailed};
 use std::marker::Model;
 
 /// A sink that takes every byte, keeps none and never fails: it adds the bytes modulo 2^32. Contracts see the sum.
-#[derive(Debug, Drop)]
+#[derive(Drop)]
 pub struct Summed {
     total: u32,
 }

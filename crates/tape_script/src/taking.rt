@@ -8,7 +8,7 @@ use qic_base::{Source, SourceFailed};
 
 /// What was taken in a line's place: nothing, at the end of the source; bytes with no newline, as many as a line may
 /// have with it or all that were left; or so many bytes and then a newline.
-#[derive(Clone, Copy, Debug, PartialEq, Eq)]
+#[derive(Clone, Copy)]
 pub enum Taken {
     End,
     Open { read: u8 },

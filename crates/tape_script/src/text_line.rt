@@ -13,7 +13,7 @@ use std::marker::Model;
 const GREATEST_LOW_PART: u32 = 0x01EA_6DFF;
 
 /// A line of printed text, of at most 160 bytes. Contracts see its bytes.
-#[derive(Debug, Drop)]
+#[derive(Drop)]
 pub struct TextLine {
     bytes: [u8; 160],
     len: usize,

@@ -11,7 +11,7 @@ use command_spec::Words;
 use qic_base::{LONGEST, Name};
 
 /// The words are those of no command.
-#[derive(Clone, Copy, Debug, PartialEq, Eq)]
+#[derive(Clone, Copy, Debug)]
 pub struct BadWords;
 
 fn read_one(first: &[u8]) -> Option<Words>

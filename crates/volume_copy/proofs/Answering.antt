@@ -20,17 +20,17 @@ use Rattle.volume_store.specs.Opening.{OpenFails}
 use Rattle.volume_copy.proofs.Ends.{decks_of}
 use Rattle.volume_copy.proofs.Goes.{Chained, GoesOn, append_kind, append_late, chained, count_behind, goes_broke, goes_both}
 use Rattle.volume_copy.proofs.Goes.{goes_done, goes_read, goes_same, lines_more, missing_goes, reads_count, reads_only}
-use Rattle.volume_copy.specs.Faults.{from_status, to_status}
 use Rattle.volume_copy.specs.Runs.{BothRefused, CopiesOne, CopyView, HasRun, IsCounted, IsRefused, IsUnlike, IsUnprinted}
-use Rattle.volume_copy.specs.Runs.{MissingEnds, PrintsCount, RunEnds, SideView, Units, append_answer, append_status, next_number}
+use Rattle.volume_copy.specs.Runs.{MissingEnds, PrintsCount, RunEnds, SideView, Units, append_answer, append_status, from_status}
+use Rattle.volume_copy.specs.Runs.{next_number, to_status}
 use Rattle.volume_copy.specs.Source.{new_source, source_means}
 use Rattle.volume_store.specs.Appending.{AppendEnds}
 use Rattle.volume_store.specs.declared.appended.Appended.{Appended}
-use Rattle.segment_io.specs.declared.fault.StoreFault.{StoreFault}
+use Rattle.qic_base.specs.declared.store_fault.StoreFault.{StoreFault}
 use Rattle.command_spec.specs.declared.copy_status.CopyStatus.TheVariants as status
 use Rattle.qic_base.specs.Sink as sinks
 use Rattle.qic_base.specs.Tape as tapes
-use Rattle.segment_io.specs.declared.fault.StoreFault.TheVariants as fault
+use Rattle.qic_base.specs.declared.store_fault.StoreFault.TheVariants as fault
 
 -- ---- the kinds of refusals
 

@@ -24,7 +24,7 @@ use Rattle.volume_copy.proofs.Volume.{IsCopied, IsTurned, IsUngiven, IsUnwritten
 use Rattle.volume_copy.specs.Runs.{CopyView, HasCopied, HaveCopied, IsCounted, IsRefused, IsUnprinted, MissingEnds, PrintsCount, SideFits}
 use Rattle.volume_copy.specs.Runs.{SideView, next_number}
 use Rattle.volume_copy.specs.Source.{SourceView, new_source, source_means}
-use Rattle.command_spec.specs.declared.copy_fault.CopyFault.TheVariants as copy
+use Rattle.qic_base.specs.declared.store_fault.StoreFault.TheVariants as fault
 use Rattle.command_spec.specs.declared.copy_status.CopyStatus.TheVariants as status
 use Rattle.qic_base.specs.Sink as sinks
 use Rattle.qic_base.specs.SinkCalls as sink_calls
@@ -56,7 +56,7 @@ pub record AllCarried {B K : Type 0} (b : tapes.Meaning B) (k : sinks.Meaning K)
 -- A fault of the source's tape broke it off,
 pub record SourceBroke {B K : Type 0} (b : tapes.Meaning B) (k : sinks.Meaning K) (source to : Side) (old new : Outside B (Unit {0}) K)
     (answer : CopyStatus) : Type 0 where
-  pub answered : answer ≡ status.From copy.Tape
+  pub answered : answer ≡ status.From fault.Tape
   pub acts : List Act
   pub ending : CopyStatus
   pub does : Copies source (missing source to) to acts ending
@@ -68,7 +68,7 @@ pub record SourceBroke {B K : Type 0} (b : tapes.Meaning B) (k : sinks.Meaning K
 -- or one of the target's,
 pub record TargetBroke {B K : Type 0} (b : tapes.Meaning B) (k : sinks.Meaning K) (source to : Side) (old new : Outside B (Unit {0}) K)
     (answer : CopyStatus) : Type 0 where
-  pub answered : answer ≡ status.To copy.Tape
+  pub answered : answer ≡ status.To fault.Tape
   pub acts : List Act
   pub ending : CopyStatus
   pub does : Copies source (missing source to) to acts ending

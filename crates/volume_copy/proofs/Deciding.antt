@@ -22,7 +22,7 @@ use Rattle.command_spec.specs.CopyPromises.{TakesMore, ToAnswers}
 use Rattle.command_spec.specs.Copying.{giving_status}
 use Rattle.command_spec.specs.Headline.{EachLeft}
 use Rattle.command_spec.specs.Restore.{GivingEnd, LostIn, MismatchIn, Restores, pieces}
-use Rattle.command_spec.specs.declared.copy_fault.CopyFault.{CopyFault}
+use Rattle.qic_base.specs.declared.store_fault.StoreFault.{StoreFault}
 use Rattle.command_spec.specs.declared.copy_status.CopyStatus.{CopyStatus}
 use Rattle.drive_spec.specs.Terms.{is_protected}
 use Rattle.drive_states.specs.Unit.{UnitView}
@@ -43,20 +43,17 @@ use Rattle.volume_copy.proofs.Given.{left_before, long, numbered_there, refused_
 use Rattle.volume_copy.proofs.Filling.{OnlyRead, by_done}
 use Rattle.volume_copy.proofs.Goes.{Chained, chained, missing_goes, reads_only, stops_behind, told_behind_reads, too_long, too_short}
 use Rattle.volume_copy.proofs.Openings.{OpenedAt, RefusedAs, opened_at, opened_mark, refused_as}
-use Rattle.volume_copy.specs.Faults.{copy_fault, from_status, to_status}
 use Rattle.volume_copy.specs.Runs.{CopyView, HasCopied, HasRun, HaveCopied, IsCounted, IsRefused, IsUnlike, IsUnprinted, PrintsCount}
-use Rattle.volume_copy.specs.Runs.{RunEnds, Units, append_status, next_number}
+use Rattle.volume_copy.specs.Runs.{RunEnds, Units, append_status, from_status, next_number, to_status}
 use Rattle.volume_copy.specs.Source.{IsOfPart, IsRefusal, new_source, source_means}
 use Rattle.volume_store.specs.Appending.{AppendEnds}
 use Rattle.cartridge_front.specs.Learning.{MountRefuses}
 use Rattle.volume_store.specs.Mounting.{IsSettling, StoreView}
-use Rattle.segment_io.specs.declared.fault.StoreFault.{StoreFault}
 use Rattle.cartridge_spec.specs.Mounting as mounting
-use Rattle.command_spec.specs.declared.copy_fault.CopyFault.TheVariants as copy
+use Rattle.qic_base.specs.declared.store_fault.StoreFault.TheVariants as fault
 use Rattle.command_spec.specs.declared.copy_status.CopyStatus.TheVariants as status
 use Rattle.qic_base.specs.Sink as sinks
 use Rattle.qic_base.specs.Tape as tapes
-use Rattle.segment_io.specs.declared.fault.StoreFault.TheVariants as fault
 
 -- ---- the openings
 
@@ -65,9 +62,9 @@ WhereMounted = Cartridge → Header → (words : List ℕ) → (table : List (Li
 
 -- a refusal of the mounting
 mount_answers : (f : StoreFault) (held : Option Cartridge) (P : WhereMounted) → IsSomeAnd held (λ c. MountRefuses c f) →
-    IsSomeAnd held (λ c. (m : Mounting) × Mounts c m × MountingRefuses m (copy_fault f) (P c))
+    IsSomeAnd held (λ c. (m : Mounting) × Mounts c m × MountingRefuses m f (P c))
 mount_answers f None P none = absurd none
-mount_answers f (Some c) P refuses = let how : RefusedAs c (copy_fault f) = refused_as c f refuses in (
+mount_answers f (Some c) P refuses = let how : RefusedAs c f = refused_as c f refuses in (
   how.mounting,
   how.mounts,
   how.is (P c),
@@ -75,7 +72,7 @@ mount_answers f (Some c) P refuses = let how : RefusedAs c (copy_fault f) = refu
 
 -- one of what is mounted
 mounted_answers : {T : Type 0} (m : tapes.Meaning T) (held : Option Cartridge) (unit : UnitView T) (store : StoreView)
-    (steps : List TapeStep) (found : CopyFault) (P : WhereMounted) → (o : OpenedAt m held unit store steps) →
+    (steps : List TapeStep) (found : StoreFault) (P : WhereMounted) → (o : OpenedAt m held unit store steps) →
     P o.cartridge store.header store.words o.at.table store.entries → IsSomeAnd held (λ c. (n : Mounting) × Mounts c n × MountingRefuses n
     found (P c))
 mounted_answers m held unit store steps found P o is =
@@ -108,12 +105,12 @@ never_told : (o : Option (Option Cartridge)) → ((held : Option Cartridge) → 
 never_told None never = refl
 never_told (Some held) never = absurd (never held refl)
 
-from_never_short : (why : Option StoreFault) (promised read : ℕ) → from_status why ≡ status.To (copy.Short promised read) → ⊥
+from_never_short : (why : Option StoreFault) (promised read : ℕ) → from_status why ≡ status.To (fault.Short promised read) → ⊥
 from_never_short None promised read is = cc
 from_never_short (Some f) promised read is = cc
 
 to_never_short : {T : Type 0} (t : tapes.Meaning T) (x y : T) (why : Option StoreFault) (promised read : ℕ) → OpenFails t x y why →
-    to_status why ≡ status.To (copy.Short promised read) → ⊥
+    to_status why ≡ status.To (fault.Short promised read) → ⊥
 to_never_short t x y None promised read fails is = cc
 to_never_short t x y (Some (fault.Short p r)) promised read fails is = let kind = fails.kind in cc
 to_never_short t x y (Some f) promised read fails is = cc
@@ -132,16 +129,16 @@ module _ {A B K : Type 0} (a : tapes.Meaning A) (b : tapes.Meaning B) (k : sinks
     from_failed None fails = over_at (a.told old.from.tape) (λ h. h ≡ None) held fails.1 told
     from_failed (Some fault.Tape) fails = tt
     from_failed (Some fault.NotFormatted) fails =
-        mount_answers fault.NotFormatted held (λ c. EndsVolume c copy.NotFormatted)
+        mount_answers fault.NotFormatted held (λ c. EndsVolume c fault.NotFormatted)
         (over_at (a.told old.from.tape) (λ h. IsSomeAnd h (λ c. MountRefuses c fault.NotFormatted)) held fails.told told)
     from_failed (Some (fault.Foreign field value)) fails =
-        mount_answers (fault.Foreign field value) held (λ c. EndsVolume c (copy.Foreign field value))
+        mount_answers (fault.Foreign field value) held (λ c. EndsVolume c (fault.Foreign field value))
         (over_at (a.told old.from.tape) (λ h. IsSomeAnd h (λ c. MountRefuses c (fault.Foreign field value))) held fails.told told)
     from_failed (Some (fault.Lost segment lost)) fails =
-        mount_answers (fault.Lost segment lost) held (λ c. EndsVolume c (copy.Lost segment lost))
+        mount_answers (fault.Lost segment lost) held (λ c. EndsVolume c (fault.Lost segment lost))
         (over_at (a.told old.from.tape) (λ h. IsSomeAnd h (λ c. MountRefuses c (fault.Lost segment lost))) held fails.told told)
     from_failed (Some fault.TableMismatch) fails =
-        mount_answers fault.TableMismatch held (λ c. EndsVolume c copy.TableMismatch)
+        mount_answers fault.TableMismatch held (λ c. EndsVolume c fault.TableMismatch)
         (over_at (a.told old.from.tape) (λ h. IsSomeAnd h (λ c. MountRefuses c fault.TableMismatch)) held fails.told told)
     from_failed (Some f) fails = let kind = fails.kind in absurd (cc)
 
@@ -166,9 +163,10 @@ module _ {A B K : Type 0} (a : tapes.Meaning A) (b : tapes.Meaning B) (k : sinks
       from_now = Done-told chain.from ∙ from_at.told
 
       -- the volume that ended it
-      volume_ends : (e : Entry) (found : CopyFault) (read : List Act) (ending : GivingEnd) → Contains run.missing.mid.from.store.entries e →
-          Restores now run.missing.mid.from.store.words (pieces run.missing.mid.from.store.words e) read ending → giving_status ending ≡
-          status.From found →
+      volume_ends : (e : Entry) (found : StoreFault) (read : List Act) (ending : GivingEnd) →
+          Contains run.missing.mid.from.store.entries e →
+          Restores now run.missing.mid.from.store.words (pieces run.missing.mid.from.store.words e) read ending →
+          giving_status ending ≡ status.From found →
           IsSomeAnd held (λ c. (n : Mounting) × Mounts c n × MountingRefuses n found (EndsVolume c found))
       volume_ends e found read ending among restores is =
           mounted_answers a held run.begun.from.unit run.begun.from.store run.opened.opened_source.steps found (λ c. EndsVolume c found)
@@ -203,11 +201,11 @@ module _ {A B K : Type 0} (a : tapes.Meaning A) (b : tapes.Meaning B) (k : sinks
           by_fault fault.Source (Some (fault.Lost segment lost)) kind refusal =
               let found = unread_restored now run.missing.mid.from.store.words (pieces run.missing.mid.from.store.words refused.one.entry)
               (LostIn segment lost) refusal in
-              volume_ends refused.one.entry (copy.Lost segment lost) found.0 (LostIn segment lost) among found.1 refl
+              volume_ends refused.one.entry (fault.Lost segment lost) found.0 (LostIn segment lost) among found.1 refl
           by_fault fault.Source (Some (fault.Mismatch segment)) kind refusal =
               let found = unread_restored now run.missing.mid.from.store.words (pieces run.missing.mid.from.store.words refused.one.entry)
               (MismatchIn segment) refusal in
-              volume_ends refused.one.entry (copy.Mismatch segment) found.0 (MismatchIn segment) among found.1 refl
+              volume_ends refused.one.entry (fault.Mismatch segment) found.0 (MismatchIn segment) among found.1 refl
           by_fault fault.Source (Some f) kind refusal = absurd kind
           by_fault fault.Source None kind refusal = tt
           by_fault f o kind refusal = mounts_from
@@ -225,7 +223,7 @@ module _ {A B K : Type 0} (a : tapes.Meaning A) (b : tapes.Meaning B) (k : sinks
       from_run (inr (inr counted)) = from_counted answer counted.count
 
       -- a volume that is told doesn't end early
-      not_short : (promised read : ℕ) → answer ≡ status.To (copy.Short promised read) →
+      not_short : (promised read : ℕ) → answer ≡ status.To (fault.Short promised read) →
           IsRefused a b run.missing.mid run.ended answer ⊎ IsUnprinted a b k run.missing.mid run.ended answer ⊎ IsCounted k run.missing.mid
           run.ended answer → ⊥
       not_short promised read is (inl refused) = by_fault so.fault refused.one.source.fault so.ends (sym so.answered ∙ is)
@@ -240,7 +238,7 @@ module _ {A B K : Type 0} (a : tapes.Meaning A) (b : tapes.Meaning B) (k : sinks
               run.missing.mid.from.unit (next_number run.missing.mid)))
               (reading run.ended.to.unit.tape refused.one.source) run.missing.mid.to.store run.ended.to.store refused.one.entry.name
               refused.one.entry.date (Some (volume_length run.missing.mid.from.store.words refused.one.entry)) (Err f) →
-              append_status f o ≡ status.To (copy.Short promised read) → ⊥
+              append_status f o ≡ status.To (fault.Short promised read) → ⊥
           by_fault fault.Source (Some why) ends same = cc
           by_fault fault.Source None ends same = cc
           by_fault (fault.Short p r) o ends same =
@@ -256,12 +254,12 @@ module _ {A B K : Type 0} (a : tapes.Meaning A) (b : tapes.Meaning B) (k : sinks
               let whole : length ends.input ≡ n = ap length all ∙ size in
               omega (arith, short, whole)
           by_fault f o ends same = cc
-      not_short promised read is (inr (inl unprinted)) = let no : status.SinkFault ≡ status.To (copy.Short promised read) =
+      not_short promised read is (inr (inl unprinted)) = let no : status.SinkFault ≡ status.To (fault.Short promised read) =
           sym unprinted.answered ∙ is in cc
       not_short promised read is (inr (inr counted)) = by_count answer counted.count is
         where
           by_count : (found : CopyStatus) → PrintsCount k run.missing.mid.sink run.ended.sink (length run.missing.mid.to.store.entries)
-              found → found ≡ status.To (copy.Short promised read) → ⊥
+              found → found ≡ status.To (fault.Short promised read) → ⊥
           by_count status.Done wrote same = cc
           by_count status.SinkFault broke same = cc
           by_count found none same = absurd none
@@ -280,14 +278,14 @@ module _ {A B K : Type 0} (a : tapes.Meaning A) (b : tapes.Meaning B) (k : sinks
         source held opened told))
     run_source (inr run) = from_run run run.missing.ends
 
-    run_never_short : (promised read : ℕ) → answer ≡ status.To (copy.Short promised read) → RunEnds a b k old new answer → ⊥
+    run_never_short : (promised read : ℕ) → answer ≡ status.To (fault.Short promised read) → RunEnds a b k old new answer → ⊥
     run_never_short promised read is (inl (inl refused, same)) = from_never_short refused.0 promised read (sym refused.3 ∙ is)
     run_never_short promised read is (inl (inr (inl refused), same)) = to_never_short b old.to.tape new.to.tape refused.1 promised read
         refused.3 (sym refused.4 ∙ is)
     run_never_short promised read is (inl (inr (inr (source, target, opened, opened', inl protected)), same)) =
-        let no : status.To copy.Protected ≡ status.To (copy.Short promised read) = sym protected.1 ∙ is in cc
+        let no : status.To fault.Protected ≡ status.To (fault.Short promised read) = sym protected.1 ∙ is in cc
     run_never_short promised read is (inl (inr (inr (source, target, opened, opened', inr differs)), same)) =
-        let no : status.Differs differs.1.0 ≡ status.To (copy.Short promised read) = sym differs.1.2 ∙ is in cc
+        let no : status.Differs differs.1.0 ≡ status.To (fault.Short promised read) = sym differs.1.2 ∙ is in cc
     run_never_short promised read is (inr run) = not_short run promised read is run.missing.ends
 
     -- ---- what is left of it
@@ -372,7 +370,7 @@ module _ {A B K : Type 0} (a : tapes.Meaning A) (b : tapes.Meaning B) (k : sinks
     left_same same = left_nothing (subst (λ (units : Units A B K). tapes.Done a old.from.tape units.from.tape []) (sym same)
         (Done-nothing a old.from.tape))
 
-  pub run_short : RunEnds a b k old new answer → (promised read : ℕ) → answer ≡ status.To (copy.Short promised read) → a.told old.from.tape
+  pub run_short : RunEnds a b k old new answer → (promised read : ℕ) → answer ≡ status.To (fault.Short promised read) → a.told old.from.tape
       ≡ None
   run_short ends promised read is = never_told (a.told old.from.tape) (λ held told. run_never_short held told promised read is ends)
 
@@ -419,16 +417,16 @@ module _ {A B K : Type 0} (a : tapes.Meaning A) (b : tapes.Meaning B) (k : sinks
     to_failed None fails = over_at (b.told old.to.tape) (λ h. h ≡ None) held fails.1 told
     to_failed (Some fault.Tape) fails = tt
     to_failed (Some fault.NotFormatted) fails =
-        mount_answers fault.NotFormatted held (λ c. EndsAppend c copy.NotFormatted)
+        mount_answers fault.NotFormatted held (λ c. EndsAppend c fault.NotFormatted)
         (over_at (b.told old.to.tape) (λ h. IsSomeAnd h (λ c. MountRefuses c fault.NotFormatted)) held fails.told told)
     to_failed (Some (fault.Foreign field value)) fails =
-        mount_answers (fault.Foreign field value) held (λ c. EndsAppend c (copy.Foreign field value))
+        mount_answers (fault.Foreign field value) held (λ c. EndsAppend c (fault.Foreign field value))
         (over_at (b.told old.to.tape) (λ h. IsSomeAnd h (λ c. MountRefuses c (fault.Foreign field value))) held fails.told told)
     to_failed (Some (fault.Lost segment lost)) fails =
-        mount_answers (fault.Lost segment lost) held (λ c. EndsAppend c (copy.Lost segment lost))
+        mount_answers (fault.Lost segment lost) held (λ c. EndsAppend c (fault.Lost segment lost))
         (over_at (b.told old.to.tape) (λ h. IsSomeAnd h (λ c. MountRefuses c (fault.Lost segment lost))) held fails.told told)
     to_failed (Some fault.TableMismatch) fails =
-        mount_answers fault.TableMismatch held (λ c. EndsAppend c copy.TableMismatch)
+        mount_answers fault.TableMismatch held (λ c. EndsAppend c fault.TableMismatch)
         (over_at (b.told old.to.tape) (λ h. IsSomeAnd h (λ c. MountRefuses c fault.TableMismatch)) held fails.told told)
     to_failed (Some f) fails = let kind = fails.kind in absurd (cc)
 
@@ -453,8 +451,8 @@ module _ {A B K : Type 0} (a : tapes.Meaning A) (b : tapes.Meaning B) (k : sinks
 
         by_case : IsUnlike source target answer → ToAnswers held answer
         by_case (inl locked) =
-            subst (ToAnswers held) (sym locked.1) (mounted_answers b held new.to target opened.steps copy.Protected
-            (λ c. EndsAppend c copy.Protected) o (mark true locked.0))
+            subst (ToAnswers held) (sym locked.1) (mounted_answers b held new.to target opened.steps fault.Protected
+            (λ c. EndsAppend c fault.Protected) o (mark true locked.0))
         by_case (inr (free, (number, differs, answered))) =
             let found = differs_at_most source.words source.entries target.words target.entries 1 number differs in
             subst (ToAnswers held) (sym answered)
@@ -494,7 +492,7 @@ module _ {A B K : Type 0} (a : tapes.Meaning A) (b : tapes.Meaning B) (k : sinks
             };
           }
 
-      refused_answers : (found : CopyFault) → EndsAppend to_at.cartridge found run.begun.to.store.header run.begun.to.store.words
+      refused_answers : (found : StoreFault) → EndsAppend to_at.cartridge found run.begun.to.store.header run.begun.to.store.words
           to_at.at.table run.begun.to.store.entries →
           IsSomeAnd held (λ c. (n : Mounting) × Mounts c n × MountingRefuses n found (EndsAppend c found))
       refused_answers found is =
@@ -524,13 +522,13 @@ module _ {A B K : Type 0} (a : tapes.Meaning A) (b : tapes.Meaning B) (k : sinks
           by_fault fault.Protected o kind is ends =
               absurd (never_protected a b (next_number run.missing.mid) run.missing.mid.from run.ended.from run.missing.mid.to run.ended.to
               (Err answer) refused.one at_mid.cartridge at_mid.told chain_to.to_fits at_mid.target is)
-          by_fault (fault.Lost segment lost) o kind is ends = refused_answers (copy.Lost segment lost) free
+          by_fault (fault.Lost segment lost) o kind is ends = refused_answers (fault.Lost segment lost) free
           by_fault fault.TableMismatch o kind is ends =
               let at = tells_at b run.missing.mid.to.unit.tape _ at_mid.cartridge at_mid.told ends.told in absurd (at.2)
           by_fault (fault.Full need have) o kind is ends =
               let n : ℕ = volume_length run.missing.mid.from.store.words refused.one.entry in
               let none = too_long (room run.missing.mid.to.store.words run.missing.mid.to.store.entries) n ends.input need have ends.took in
-              refused_answers (copy.Full need have) (
+              refused_answers (fault.Full need have) (
                 free,
                 (
                   chain_to.more,
@@ -538,7 +536,7 @@ module _ {A B K : Type 0} (a : tapes.Meaning A) (b : tapes.Meaning B) (k : sinks
                       ap (room run.begun.to.store.words) chain_to.to_entries,
                 ),
               )
-          by_fault (fault.Short promised read) o kind is ends = refused_answers (copy.Short promised read) free
+          by_fault (fault.Short promised read) o kind is ends = refused_answers (fault.Short promised read) free
           by_fault fault.Tape o kind is ends = tt
           by_fault f o kind is ends = absurd ends
 

@@ -31,18 +31,16 @@ use Rattle.volume_copy.proofs.Goes.{ReadsFor, missing_goes}
 use Rattle.volume_copy.proofs.Openings.{OpenedAt, RefusedAs, opened_at, opened_mark, refused_as, settles_first, source_begins}
 use Rattle.volume_copy.proofs.Openings.{target_begins}
 use Rattle.volume_copy.proofs.Volume.{is_outside}
-use Rattle.volume_copy.specs.Faults.{copy_fault, from_status, to_status}
-use Rattle.volume_copy.specs.Runs.{AreOpened, BothRefused, CopyRuns, CopyView, HasRun, IsUnlike, RunEnds, Units}
+use Rattle.volume_copy.specs.Runs.{AreOpened, BothRefused, CopyRuns, CopyView, HasRun, IsUnlike, RunEnds, Units, from_status, to_status}
 use Rattle.cartridge_front.specs.Learning.{MountRefuses}
 use Rattle.volume_store.specs.Mounting.{StoreView}
-use Rattle.segment_io.specs.declared.fault.StoreFault.{StoreFault}
+use Rattle.qic_base.specs.declared.store_fault.StoreFault.{StoreFault}
 use Rattle.cartridge_spec.specs.Mounting as mounting
-use Rattle.command_spec.specs.declared.copy_fault.CopyFault.TheVariants as copy
+use Rattle.qic_base.specs.declared.store_fault.StoreFault.TheVariants as fault
 use Rattle.command_spec.specs.declared.copy_status.CopyStatus.TheVariants as status
 use Rattle.qic_base.specs.Sink as sinks
 use Rattle.qic_base.specs.Tape as tapes
 use Rattle.qic_base.specs.TapeCalls as tape_calls
-use Rattle.segment_io.specs.declared.fault.StoreFault.TheVariants as fault
 
 -- the tapes and the sink of units
 abbrev pub decks_of : {A B K : Type 0} → Units A B K → Decks A B K
@@ -75,16 +73,16 @@ module _ {A B K : Type 0} (a : tapes.Meaning A) (b : tapes.Meaning B) (k : sinks
 
   pub went_ends : (old new : Decks A B K) (answer : CopyStatus) (from to : Option Cartridge) → is_outside answer ≡ false →
       CopyWent a b k old new answer from to → CopyEnds a b k old new answer from to
-  went_ends old new (status.From copy.Tape) from to plain went = absurd (cc)
-  went_ends old new (status.To copy.Tape) from to plain went = absurd (cc)
+  went_ends old new (status.From fault.Tape) from to plain went = absurd (cc)
+  went_ends old new (status.To fault.Tape) from to plain went = absurd (cc)
   went_ends old new status.SinkFault from to plain went = absurd (cc)
   went_ends old new answer from to plain went = went
 
-  pub from_ends : (old new : Decks A B K) (answer : CopyStatus) (from to : Option Cartridge) → answer ≡ status.From copy.Tape →
+  pub from_ends : (old new : Decks A B K) (answer : CopyStatus) (from to : Option Cartridge) → answer ≡ status.From fault.Tape →
       FromCut a b k old new from to → CopyEnds a b k old new answer from to
   from_ends old new answer from to is cut = subst (λ (found : CopyStatus). CopyEnds a b k old new found from to) (sym is) cut
 
-  pub to_ends : (old new : Decks A B K) (answer : CopyStatus) (from to : Option Cartridge) → answer ≡ status.To copy.Tape →
+  pub to_ends : (old new : Decks A B K) (answer : CopyStatus) (from to : Option Cartridge) → answer ≡ status.To fault.Tape →
       ToCut a b k old new from to → CopyEnds a b k old new answer from to
   to_ends old new answer from to is cut = subst (λ (found : CopyStatus). CopyEnds a b k old new found from to) (sym is) cut
 
@@ -130,16 +128,16 @@ module _ {A B K : Type 0} (a : tapes.Meaning A) (b : tapes.Meaning B) (k : sinks
 
         refused : (f : StoreFault) → tapes.Done a old.from.tape new.from.tape [] → IfSome (a.told old.from.tape)
             (λ held. IsSomeAnd held (λ c. MountRefuses c f)) →
-            CopyWent a b k (decks_of old) (decks_of new) (status.From (copy_fault f)) from to
+            CopyWent a b k (decks_of old) (decks_of new) (status.From f) from to
         refused f did told = by_held from (over_at (a.told old.from.tape) (λ held. IsSomeAnd held (λ c. MountRefuses c f)) from told
             from_told)
           where
             by_held : (held : Option Cartridge) → IsSomeAnd held (λ c. MountRefuses c f) → CopyWent a b k (decks_of old) (decks_of new)
-                (status.From (copy_fault f)) held to
+                (status.From f) held to
             by_held None none = absurd none
             by_held (Some c) refuses =
-                let how : RefusedAs c (copy_fault f) = refused_as c f refuses in record {
-                  outcome = copy_refused (status.From (copy_fault f));
+                let how : RefusedAs c f = refused_as c f refuses in record {
+                  outcome = copy_refused (status.From f);
                   plain = (how.mounting, how.mounts, how.from to);
                   answered = refl;
                   settling = did;
@@ -214,16 +212,16 @@ module _ {A B K : Type 0} (a : tapes.Meaning A) (b : tapes.Meaning B) (k : sinks
 
           refused : (f : StoreFault) → tapes.Done b old.to.tape new.to.tape [] → IfSome (b.told old.to.tape)
               (λ held. IsSomeAnd held (λ c. MountRefuses c f)) →
-              CopyWent a b k (decks_of old) (decks_of new) (status.To (copy_fault f)) from to
+              CopyWent a b k (decks_of old) (decks_of new) (status.To f) from to
           refused f did told =
-              went_with [] (status.To (copy_fault f))
+              went_with [] (status.To f)
               (by_held to (over_at (b.told old.to.tape) (λ held. IsSomeAnd held (λ c. MountRefuses c f)) to told to_told)) read_on
               (nothing_done laws.nothing old.to.tape new.to.tape old.sink new.sink quiet_so did)
             where
               by_held : (held : Option Cartridge) → IsSomeAnd held (λ c. MountRefuses c f) → ToDoes source held []
-                  (status.To (copy_fault f))
+                  (status.To f)
               by_held None none = absurd none
-              by_held (Some c) refuses = let how : RefusedAs c (copy_fault f) = refused_as c f refuses in (
+              by_held (Some c) refuses = let how : RefusedAs c f = refused_as c f refuses in (
                 how.mounting,
                 how.mounts,
                 how.to source,
@@ -290,7 +288,7 @@ module _ {A B K : Type 0} (a : tapes.Meaning A) (b : tapes.Meaning B) (k : sinks
                 let protected : to_at.cartridge.info.protected ≡ true = mark true locked.0 in
                 let none : to_opened.steps ≡ [] = to_at.at.settles ∙ locked_steps to_at.at.table to_at.cartridge protected in
                 subst Ends (sym locked.1)
-                (went_with [] (status.To copy.Protected) (does_to [] (status.To copy.Protected) (inl (protected, refl, refl))) read_on
+                (went_with [] (status.To fault.Protected) (does_to [] (status.To fault.Protected) (inl (protected, refl, refl))) read_on
                 (nothing_done laws.nothing old.to.tape new.to.tape old.sink new.sink quiet_so (subst (tapes.Done b old.to.tape new.to.tape)
                 none did)))
             by_case (inr (free, (number, differs, answered))) =
@@ -342,7 +340,7 @@ module _ {A B K : Type 0} (a : tapes.Meaning A) (b : tapes.Meaning B) (k : sinks
           -- no reading failed, where nothing of the outside did
           plain_reads : (answer : CopyStatus) → is_outside answer ≡ false → ReadsFor a unit.tape new.from.tape answer →
               tapes.Done a unit.tape new.from.tape []
-          plain_reads (status.From copy.Tape) plain reads = absurd (cc)
+          plain_reads (status.From fault.Tape) plain reads = absurd (cc)
           plain_reads answer plain reads = reads
 
           run_ends : (answer : CopyStatus) → ReadsFor a unit.tape new.from.tape answer →

@@ -20,13 +20,13 @@ use Rattle.segment_io.proofs.Going.{done_moved}
 use Rattle.volume_output.specs.Part.{ReadsPiece}
 use Rattle.volume_store.specs.Mounting.{StoreView, StoreFits, KeepsStore}
 use Rattle.volume_store.specs.Restoring.{ReadsPart}
-use Rattle.segment_io.specs.declared.fault.StoreFault.{StoreFault}
+use Rattle.qic_base.specs.declared.store_fault.StoreFault.{StoreFault}
 use Rattle.volume_copy.proofs.Bytes.{drop_past, given_none, given_next}
 use Rattle.volume_copy.specs.Given.{given_bytes}
 use Rattle.volume_copy.specs.Source.{SourceView, IsHeld, IsSoundSource, KeepsVolume, FirstRead, IsOfPart, IsRefusal, Reads}
 use Rattle.volume_copy.specs.Source.{bytes_left, left_where, pieces_at, pieces_of_number, source_means, source_pieces}
 use Rattle.volume_copy.proofs.Lists.{from_index}
-use Rattle.segment_io.specs.declared.fault.StoreFault.TheVariants as fault
+use Rattle.qic_base.specs.declared.store_fault.StoreFault.TheVariants as fault
 
 -- the tape was only read
 pub record OnlyRead {T : Type 0} (m : Meaning T) (old new : T) : Type 0 where

@@ -35,7 +35,7 @@ use Rattle.qic_base.specs.Step.{Step as TapeStep, effects, Torn}
 use Rattle.volume_copy.proofs.Ends.{AtStart}
 use Rattle.volume_copy.proofs.Text.{text_begins}
 use Rattle.volume_copy.specs.Printing.{PrintsMissing}
-use Rattle.command_spec.specs.declared.copy_fault.CopyFault.TheVariants as copy
+use Rattle.qic_base.specs.declared.store_fault.StoreFault.TheVariants as fault
 use Rattle.command_spec.specs.declared.copy_status.CopyStatus.TheVariants as status
 use Rattle.qic_base.specs.Sink as sinks
 use Rattle.qic_base.specs.Tape as tapes
@@ -86,7 +86,7 @@ module _ {A B K : Type 0} (a : tapes.Meaning A) (b : tapes.Meaning B) (k : sinks
     }
 
     left_by : (found : CopyStatus) → CopyEnds a b k old new found from to → LeftBy b old.to new.to to (ToLeaves from to)
-    left_by (status.From copy.Tape) cut =
+    left_by (status.From fault.Tape) cut =
         let all : steps_of cut.front ++ steps_of cut.rest ≡ steps_of cut.outcome.acts = sym (steps_of-append cut.front cut.rest) ∙
         ap steps_of cut.parts in record {
           steps = steps_of cut.front;
@@ -101,7 +101,7 @@ module _ {A B K : Type 0} (a : tapes.Meaning A) (b : tapes.Meaning B) (k : sinks
                     (Torn-front (steps_of cut.front) (steps_of cut.rest) to left is),
               );
         }
-    left_by (status.To copy.Tape) cut =
+    left_by (status.To fault.Tape) cut =
         by_outcome cut.outcome cut.plain (cut_stops b no_source k (around old.to old.sink) (around new.to new.sink) cut.outcome.acts
         TapeFails cut.cut)
         (cut_is_torn b no_source k (around old.to old.sink) (around new.to new.sink) cut.outcome.acts TapeFails to cut.cut to_told)
@@ -236,7 +236,7 @@ module _ {A B K : Type 0} (a : tapes.Meaning A) (b : tapes.Meaning B) (k : sinks
     front_text front rest acts parts = sym (text_of-append front rest) ∙ ap text_of parts
 
     left_ends : (found : CopyStatus) → CopyEnds a b k old new found from (Some d) → HasLeft from d found
-    left_ends (status.From copy.Tape) cut = record {
+    left_ends (status.From fault.Tape) cut = record {
       outcome = cut.outcome;
       plain = cut.plain;
       text = text_of cut.front;
@@ -254,7 +254,7 @@ module _ {A B K : Type 0} (a : tapes.Meaning A) (b : tapes.Meaning B) (k : sinks
         is_text = refl;
       });
     }
-    left_ends (status.To copy.Tape) cut =
+    left_ends (status.To fault.Tape) cut =
         let now = still_told (b.told old.to) (b.told new.to) (Some d) cut.cut.broke.tells to_told in record {
           outcome = cut.outcome;
           plain = cut.plain;
@@ -438,7 +438,7 @@ module _ {A B K : Type 0} (a : tapes.Meaning A) (b : tapes.Meaning B) (k : sinks
       where
         by_answer : (found : CopyStatus) → HasRisen a b k old new found → CopyEnds a b k old new found (Some c) (Some d) →
             found ≡ status.Done
-        by_answer (status.From copy.Tape) rose cut = absurd (none.from rose.from)
-        by_answer (status.To copy.Tape) rose cut = absurd (none.to rose.to)
+        by_answer (status.From fault.Tape) rose cut = absurd (none.from rose.from)
+        by_answer (status.To fault.Tape) rose cut = absurd (none.to rose.to)
         by_answer status.SinkFault rose cut = absurd (none.sink rose.sink)
         by_answer found rose went = went.answered ∙ copy_with_room_is_done c one d other went.outcome whole_d can went.plain

@@ -19,19 +19,17 @@ use Rattle.qic_base.proofs.Writing.{TakesBoth}
 use Rattle.qic_base.specs.Alone.{reading}
 use Rattle.qic_base.specs.Step.{Step as TapeStep, effects}
 use Rattle.volume_copy.proofs.Filling.{OnlyRead, by_broke, by_done}
-use Rattle.volume_copy.specs.Faults.{copy_fault}
 use Rattle.volume_copy.specs.Runs.{CopiesOne, CopyView, HasCopied, HaveCopied, IsCounted, IsRefused, IsUnprinted, MissingEnds, PrintsCount}
 use Rattle.volume_copy.specs.Runs.{SideFits, SideView, append_answer, append_status, next_number}
 use Rattle.volume_copy.specs.Source.{IsOfPart, SourceView, new_source, source_means}
 use Rattle.volume_store.specs.Appending.{AppendEnds}
 use Rattle.volume_store.specs.Mounting.{StoreView}
 use Rattle.volume_store.specs.declared.appended.Appended.{Appended}
-use Rattle.segment_io.specs.declared.fault.StoreFault.{StoreFault}
-use Rattle.command_spec.specs.declared.copy_fault.CopyFault.TheVariants as copy
+use Rattle.qic_base.specs.declared.store_fault.StoreFault.{StoreFault}
+use Rattle.qic_base.specs.declared.store_fault.StoreFault.TheVariants as fault
 use Rattle.command_spec.specs.declared.copy_status.CopyStatus.TheVariants as status
 use Rattle.qic_base.specs.Sink as sinks
 use Rattle.qic_base.specs.Tape as tapes
-use Rattle.segment_io.specs.declared.fault.StoreFault.TheVariants as fault
 
 -- ---- a tape
 
@@ -93,17 +91,17 @@ goes_read m a b read = record { later = read.later; tells = ap is_some read.told
 
 -- calls that only read were carried out, or a fault of the tape broke the last one off, as an answer says
 abbrev pub ReadsFor : {T : Type 0} (m : tapes.Meaning T) (x y : T) → CopyStatus → Type 0
-ReadsFor m x y (status.From copy.Tape) = tapes.Broke m x y []
+ReadsFor m x y (status.From fault.Tape) = tapes.Broke m x y []
 ReadsFor m x y answer = tapes.Done m x y []
 
 pub reads_only : {T : Type 0} (m : tapes.Meaning T) (x y : T) (answer : CopyStatus) → ReadsFor m x y answer → OnlyRead m x y
-reads_only m x y (status.From copy.Tape) reads = by_broke m x y reads
+reads_only m x y (status.From fault.Tape) reads = by_broke m x y reads
 reads_only m x y answer reads = by_done m x y reads
 
 -- .. and so did its count
 pub reads_count : {T : Type 0} (m : tapes.Meaning T) (x y : T) (answer : CopyStatus) → ReadsFor m x y answer →
     CountGoes (is_from_broken answer) (m.faults x) (m.faults y)
-reads_count m x y (status.From copy.Tape) reads = reads.cause
+reads_count m x y (status.From fault.Tape) reads = reads.cause
 reads_count m x y answer reads = reads.later
 
 -- a count goes behind calls that left it as it was
@@ -330,21 +328,21 @@ module _ {A B : Type 0} (a : tapes.Meaning A) (b : tapes.Meaning B) (number : �
           Err answer ≡ append_answer r o → ReadsFor a from.unit.tape after.unit.tape answer
       by_answer (Ok appended) o known ends is = absurd (cc)
       by_answer (Err fault.Source) (Some fault.Tape) known ends is =
-          let answered : answer ≡ status.From copy.Tape = cc in
+          let answered : answer ≡ status.From fault.Tape = cc in
           subst (ReadsFor a from.unit.tape after.unit.tape) (sym answered)
           (subst (λ (t : A). tapes.Broke a from.unit.tape t []) (sym source_tape) (one.kept.by_tape refl known))
       by_answer (Err fault.Source) (Some (fault.Lost segment lost)) known ends is =
-          let answered : answer ≡ status.From (copy.Lost segment lost) = cc in
+          let answered : answer ≡ status.From (fault.Lost segment lost) = cc in
           subst (ReadsFor a from.unit.tape after.unit.tape) (sym answered) (source_done (λ some. cc))
       by_answer (Err fault.Source) (Some (fault.Mismatch segment)) known ends is =
-          let answered : answer ≡ status.From (copy.Mismatch segment) = cc in
+          let answered : answer ≡ status.From (fault.Mismatch segment) = cc in
           subst (ReadsFor a from.unit.tape after.unit.tape) (sym answered) (source_done (λ some. cc))
       by_answer (Err fault.Source) (Some f) known ends is =
           absurd (let kind : IsOfPart (Some f) = subst IsOfPart known one.sound.kind in kind)
       by_answer (Err fault.Source) None known ends is =
           let rose = ends.cut.cause in let none = one.sound.counted known in absurd (omega (arith, rose, none))
       by_answer (Err f) o known ends is =
-          let answered : answer ≡ status.To (copy_fault f) = cc in
+          let answered : answer ≡ status.To f = cc in
           subst (ReadsFor a from.unit.tape after.unit.tape) (sym answered) (source_done (unrefused (Err f) (λ bad. cc) ends))
 
   -- .. and what the counts of the target and of the sink do then
@@ -490,7 +488,7 @@ module _ {A B K : Type 0} (a : tapes.Meaning A) (b : tapes.Meaning B) (k : sinks
       -- what was read behind the chain
       read_more : (found : CopyStatus) → ReadsFor a ends.mid.from.unit.tape new.from.unit.tape found →
           ReadsFor a old.from.unit.tape new.from.unit.tape found
-      read_more (status.From copy.Tape) more = Broke-after_reads chain.from more
+      read_more (status.From fault.Tape) more = Broke-after_reads chain.from more
       read_more found more = Done-Done chain.from more
 
       to_behind : CountsGo ends.mid new answer → CountGoes (is_to_broken answer) (b.faults old.to.unit.tape) (b.faults new.to.unit.tape)

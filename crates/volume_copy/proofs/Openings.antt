@@ -12,7 +12,7 @@ use Rattle.cartridge_spec.specs.Table.{Entry}
 use Rattle.command_laws.proofs.CommandEnds.{over_at}
 use Rattle.command_spec.specs.CopyPromises.{MountingRefuses}
 use Rattle.command_spec.specs.Copying.{CopyOutcome, CopyYields, FromMounted, Side, ToDoes, ToMounted, copy_refused, side_of}
-use Rattle.command_spec.specs.declared.copy_fault.CopyFault.{CopyFault}
+use Rattle.qic_base.specs.declared.store_fault.StoreFault.{StoreFault}
 use Rattle.command_spec.specs.declared.copy_status.CopyStatus.{CopyStatus}
 use Rattle.drive_spec.specs.Terms.{is_protected}
 use Rattle.drive_states.specs.Unit.{UnitView}
@@ -21,16 +21,13 @@ use Rattle.qic_base.specs.Cartridge.{Cartridge}
 use Rattle.qic_base.specs.Step.{Step as TapeStep, effects}
 use Rattle.volume_store.proofs.Opened.{IsKnown, known_before, opened_known}
 use Rattle.volume_store.specs.Opening.{HasOpened}
-use Rattle.volume_copy.specs.Faults.{copy_fault}
 use Rattle.cartridge_front.specs.Learning.{MountRefuses}
 use Rattle.volume_store.specs.Mounting.{IsSettling, StoreView, IsOpened}
-use Rattle.segment_io.specs.declared.fault.StoreFault.{StoreFault}
 use Rattle.cartridge_laws.proofs.MountSettled.{locked_steps}
 use Rattle.cartridge_spec.specs.Mounting as mounting
-use Rattle.command_spec.specs.declared.copy_fault.CopyFault.TheVariants as copy
+use Rattle.qic_base.specs.declared.store_fault.StoreFault.TheVariants as fault
 use Rattle.command_spec.specs.declared.copy_status.CopyStatus.TheVariants as status
 use Rattle.qic_base.specs.Tape as tapes
-use Rattle.segment_io.specs.declared.fault.StoreFault.TheVariants as fault
 
 -- ---- opened
 
@@ -73,7 +70,7 @@ opened_mark m old unit store held opened o mark is =
 -- ---- refused
 
 -- the mounting that refuses so
-pub record RefusedAs (c : Cartridge) (found : CopyFault) : Type 1 where
+pub record RefusedAs (c : Cartridge) (found : StoreFault) : Type 1 where
   pub mounting : Mounting
   pub mounts : Mounts c mounting
   pub is : (OnceMounted : Header → (words : List ℕ) → (table : List (List ℕ)) → List Entry → Type 0) → MountingRefuses mounting found
@@ -81,7 +78,7 @@ pub record RefusedAs (c : Cartridge) (found : CopyFault) : Type 1 where
   pub from : (to : Option Cartridge) → FromMounted c mounting to (copy_refused (status.From found))
   pub to : (from : Side) → ToMounted from c mounting [] (status.To found)
 
-pub refused_as : (c : Cartridge) (f : StoreFault) → MountRefuses c f → RefusedAs c (copy_fault f)
+pub refused_as : (c : Cartridge) (f : StoreFault) → MountRefuses c f → RefusedAs c f
 refused_as c fault.NotFormatted refuses =
     record { mounting = mounting.NotFormatted; mounts = refuses; is = λ P. refl; from = λ to. refl; to = λ from. (refl, refl) }
 refused_as c (fault.Foreign field value) refuses =
@@ -94,13 +91,13 @@ refused_as c (fault.Foreign field value) refuses =
           (refl, refl);
     }
 refused_as c (fault.Lost segment lost) refuses =
-    let same : copy.Lost segment lost ≡ copy.Lost 2 lost = ap (λ (s : ℕ). copy.Lost s lost) refuses.0 in
+    let same : fault.Lost segment lost ≡ fault.Lost 2 lost = ap (λ (s : ℕ). fault.Lost s lost) refuses.0 in
     record {
       mounting = mounting.TableLost lost;
       mounts = refuses.1;
       is = λ P. same;
-      from = λ to. ap (λ (found : CopyFault). copy_refused (status.From found)) same;
-      to = λ from. (refl, ap (λ (found : CopyFault). status.To found) same);
+      from = λ to. ap (λ (found : StoreFault). copy_refused (status.From found)) same;
+      to = λ from. (refl, ap (λ (found : StoreFault). status.To found) same);
     }
 refused_as c fault.TableMismatch refuses =
     record { mounting = mounting.TableMismatch; mounts = refuses; is = λ P. refl; from = λ to. refl; to = λ from. (refl, refl) }

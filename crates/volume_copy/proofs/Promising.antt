@@ -16,7 +16,7 @@ use Rattle.volume_copy.proofs.Following.{Ended, complete, done, gave, gave_all, 
 use Rattle.volume_copy.proofs.Following.{to_grows, to_left, to_lives, to_returns}
 use Rattle.volume_copy.specs.Printing.{PrintsLines}
 use Rattle.volume_copy.specs.Runs.{CopyRuns, RunEnds, Units, is_asked}
-use Rattle.command_spec.specs.declared.copy_fault.CopyFault.TheVariants as copy
+use Rattle.qic_base.specs.declared.store_fault.StoreFault.TheVariants as fault
 use Rattle.command_spec.specs.declared.copy_status.CopyStatus.TheVariants as status
 use Rattle.qic_base.specs.Sink as sinks
 use Rattle.qic_base.specs.Tape as tapes
@@ -130,7 +130,7 @@ module _ {A B K : Type 0} (a : tapes.Meaning A) (b : tapes.Meaning B) (k : sinks
       by_answer none (inl is) = absurd (usage.0 is none)
       by_answer none (inr is) = inl is
 
-      no_short : (promised read : ℕ) → answer ≡ status.To (copy.Short promised read) → IsUnasked answer → ⊥
+      no_short : (promised read : ℕ) → answer ≡ status.To (fault.Short promised read) → IsUnasked answer → ⊥
       no_short promised read is (inl not) = let no = sym not ∙ is in cc
       no_short promised read is (inr not) = let no = sym not ∙ is in cc
 

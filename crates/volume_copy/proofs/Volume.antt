@@ -35,18 +35,17 @@ use Rattle.volume_copy.specs.Source.{IsOfPart, IsRefusal, SourceView, new_source
 use Rattle.volume_store.specs.Appending.{AppendCut, AppendEnds, CutBeforeEntry, CutUnread, FaultsUnread, HasGivenAll, ListsLast, MayAsk}
 use Rattle.volume_store.specs.Appending.{acts_before_entry, kept_by}
 use Rattle.volume_store.specs.declared.appended.Appended.{Appended}
-use Rattle.segment_io.specs.declared.fault.StoreFault.{StoreFault}
+use Rattle.qic_base.specs.declared.store_fault.StoreFault.{StoreFault}
 use Rattle.qic_base.specs.Source.{IsInput}
 use Rattle.cartridge_laws.proofs.MountOnce.{not_lost}
-use Rattle.command_spec.specs.declared.copy_fault.CopyFault.TheVariants as copy
+use Rattle.qic_base.specs.declared.store_fault.StoreFault.TheVariants as fault
 use Rattle.command_spec.specs.declared.copy_status.CopyStatus.TheVariants as status
 use Rattle.qic_base.specs.Tape as tapes
-use Rattle.segment_io.specs.declared.fault.StoreFault.TheVariants as fault
 
 -- a fault of the outside is the answer
 abbrev pub is_outside : CopyStatus → Bool
-is_outside (status.From copy.Tape) = true
-is_outside (status.To copy.Tape) = true
+is_outside (status.From fault.Tape) = true
+is_outside (status.To fault.Tape) = true
 is_outside status.SinkFault = true
 is_outside answer = false
 
@@ -79,7 +78,7 @@ pub record IsTurned {B : Type 0} (b : tapes.Meaning B) (from : Side) (e : Entry)
 
 -- A fault of the source's tape broke it off, whatever would have come of it.
 pub record IsUngiven {B : Type 0} (b : tapes.Meaning B) (from : Side) (e : Entry) (to : Side) (x y : B) (answer : CopyStatus) : Type 0 where
-  pub answered : answer ≡ status.From copy.Tape
+  pub answered : answer ≡ status.From fault.Tape
   pub acts : List Act
   pub ending : CopyStatus
   pub copies : CopiesVolume from e to acts ending
@@ -92,7 +91,7 @@ pub record IsUngiven {B : Type 0} (b : tapes.Meaning B) (from : Side) (e : Entry
 -- .. or one of the target's.
 pub record IsUnwritten {A B : Type 0} (a : tapes.Meaning A) (b : tapes.Meaning B) (from : Side) (e : Entry) (to : Side)
     (old new : Outside B (SourceView A) (Unit {0})) (answer : CopyStatus) : Type 0 where
-  pub answered : answer ≡ status.To copy.Tape
+  pub answered : answer ≡ status.To fault.Tape
   pub acts : List Act
   pub ending : CopyStatus
   pub copies : CopiesVolume from e to acts ending
@@ -171,7 +170,7 @@ module _ {A B : Type 0} (a : tapes.Meaning A) (b : tapes.Meaning B) (number : �
   by_lost : (table : List (List ℕ)) → TableIs d table → has_room_for source e side ≡ true → (read : List Act) (segment lost : ℕ) →
       Restores c from.store.words (pieces from.store.words one.entry) read (LostIn segment lost) →
       (front rest : List Act) → front ++ rest ≡ before table given_so → CopiesVolume source e side front
-      (status.From (copy.Lost segment lost))
+      (status.From (fault.Lost segment lost))
   by_lost table reads room read segment lost restores front rest parts =
       inr (
         table,
@@ -191,7 +190,7 @@ module _ {A B : Type 0} (a : tapes.Meaning A) (b : tapes.Meaning B) (number : �
   by_mismatch : (table : List (List ℕ)) → TableIs d table → has_room_for source e side ≡ true → (read : List Act) (segment : ℕ) →
       Restores c from.store.words (pieces from.store.words one.entry) read (MismatchIn segment) →
       (front rest : List Act) → front ++ rest ≡ before table given_so → CopiesVolume source e side front
-      (status.From (copy.Mismatch segment))
+      (status.From (fault.Mismatch segment))
   by_mismatch table reads room read segment restores front rest parts =
       inr (
         table,
@@ -209,11 +208,11 @@ module _ {A B : Type 0} (a : tapes.Meaning A) (b : tapes.Meaning B) (number : �
       )
 
   by_full : (table : List (List ℕ)) → TableIs d table → has_room_for source e side ≡ false →
-      CopiesVolume source e side (copy_acts source e side table []) (status.To (copy.Full n (room_in (kept_so table))))
+      CopiesVolume source e side (copy_acts source e side table []) (status.To (fault.Full n (room_in (kept_so table))))
   by_full table reads none = inr (table, reads, inl (record { none = none; does = refl; answered = refl }))
 
   by_table : (lost : ℕ) → TableSays (table_cells d) (ByCode (LostSectors lost)) → CopiesVolume source e side []
-      (status.To (copy.Lost 2 lost))
+      (status.To (fault.Lost 2 lost))
   by_table lost says = inl (record { lost = lost; says = says; does = refl; answered = refl })
 
   -- all bytes of the volume were taken
@@ -305,7 +304,7 @@ module _ {A B : Type 0} (a : tapes.Meaning A) (b : tapes.Meaning B) (number : �
       (parts : front ++ rest ≡ before table given_so)
       (did : tapes.Done b to.unit.tape new.unit.tape (steps_of front)) where
     ungiven : (read : List Act) (ending : GivingEnd) → Restores c from.store.words (pieces from.store.words one.entry) read ending →
-        IsUngiven b source e side to.unit.tape new.unit.tape (status.From copy.Tape)
+        IsUngiven b source e side to.unit.tape new.unit.tape (status.From fault.Tape)
     ungiven read Restored restores =
         let last : List Act = entry_acts (kept_so table) one.entry.name one.entry.date reply (taking (room_in (kept_so table)) (Some n)
         given_so) in
@@ -323,7 +322,7 @@ module _ {A B : Type 0} (a : tapes.Meaning A) (b : tapes.Meaning B) (number : �
     ungiven read (LostIn segment lost) restores = record {
       answered = refl;
       acts = before table given_so;
-      ending = status.From (copy.Lost segment lost);
+      ending = status.From (fault.Lost segment lost);
       copies = by_lost table reads room read segment lost restores (before table given_so) [] (append-nil (before table given_so));
       front = front;
       rest = rest;
@@ -334,7 +333,7 @@ module _ {A B : Type 0} (a : tapes.Meaning A) (b : tapes.Meaning B) (number : �
     ungiven read (MismatchIn segment) restores = record {
       answered = refl;
       acts = before table given_so;
-      ending = status.From (copy.Mismatch segment);
+      ending = status.From (fault.Mismatch segment);
       copies = by_mismatch table reads room read segment restores (before table given_so) [] (append-nil (before table given_so));
       front = front;
       rest = rest;
@@ -395,18 +394,18 @@ module _ {A B : Type 0} (a : tapes.Meaning A) (b : tapes.Meaning B) (number : �
         TapeCut b (source_means a) no_sink old_outside new_outside (append_acts (kept_by to.store t (settling_steps t f)) one.entry.name
         one.entry.date (Some n) said ends.input)) d to_told ends.told table reads reply
 
-    unwritten_full : has_room_for source e side ≡ false → IsUnwritten a b source e side old_outside new_outside (status.To copy.Tape)
+    unwritten_full : has_room_for source e side ≡ false → IsUnwritten a b source e side old_outside new_outside (status.To fault.Tape)
     unwritten_full none = record {
       answered = refl;
       acts = copy_acts source e side table [];
-      ending = status.To (copy.Full n (room_in (kept_so table)));
+      ending = status.To (fault.Full n (room_in (kept_so table)));
       copies = by_full table reads none;
       cut = subst (TapeCut b (source_means a) no_sink old_outside new_outside) (full_same table none ends.input) cut_all;
     }
 
     unwritten_all : has_room_for source e side ≡ true → (read : List Act) → Restores c from.store.words (pieces from.store.words one.entry)
         read Restored →
-        IsUnwritten a b source e side old_outside new_outside (status.To copy.Tape)
+        IsUnwritten a b source e side old_outside new_outside (status.To fault.Tape)
     unwritten_all room read restores = record {
       answered = refl;
       acts = copy_acts source e side table ends.input;
@@ -427,26 +426,26 @@ module _ {A B : Type 0} (a : tapes.Meaning A) (b : tapes.Meaning B) (number : �
 
       unwritten_early : (read : List Act) (ending : GivingEnd) → Restores c from.store.words (pieces from.store.words one.entry) read
           ending →
-          IsUnwritten a b source e side old_outside new_outside (status.To copy.Tape)
+          IsUnwritten a b source e side old_outside new_outside (status.To fault.Tape)
       unwritten_early read Restored restores = unwritten_all room read restores
       unwritten_early read (LostIn segment lost) restores = record {
         answered = refl;
         acts = before table given_so;
-        ending = status.From (copy.Lost segment lost);
+        ending = status.From (fault.Lost segment lost);
         copies = by_lost table reads room read segment lost restores (before table given_so) [] (append-nil (before table given_so));
         cut = cut_early;
       }
       unwritten_early read (MismatchIn segment) restores = record {
         answered = refl;
         acts = before table given_so;
-        ending = status.From (copy.Mismatch segment);
+        ending = status.From (fault.Mismatch segment);
         copies = by_mismatch table reads room read segment restores (before table given_so) [] (append-nil (before table given_so));
         cut = cut_early;
       }
 
     unwritten : CutBeforeEntry b (source_means a) old_outside new_outside to.store (Some n) TapeFails
         ⊎ (MayAsk b to.unit.tape to.store (Some n) × HasGivenAll (source_means a) made one.source to.store (Some n)) →
-        IsUnwritten a b source e side old_outside new_outside (status.To copy.Tape)
+        IsUnwritten a b source e side old_outside new_outside (status.To fault.Tape)
     unwritten order = elim (cases_Bool (has_room_for source e side)) [
       | inl enough ↦ elim order [
         | inl early ↦
@@ -463,13 +462,13 @@ module _ {A B : Type 0} (a : tapes.Meaning A) (b : tapes.Meaning B) (number : �
       CutBeforeEntry b (source_means a) old_outside new_outside to.store (Some n) TapeFails
       ⊎ (MayAsk b to.unit.tape to.store (Some n) × HasGivenAll (source_means a) made one.source to.store (Some n)) →
       CutUnread b (source_means a) old_outside new_outside TapeFails → IsUnwritten a b source e side old_outside new_outside
-      (status.To copy.Tape)
+      (status.To fault.Tape)
   from_target ends order unread = elim (listed_reads d to.store.words to.store.entries target.listed target.unprotected) [
     | inl (table, reads, shown) ↦ unwritten table reads ends order
     | inr (lost, says) ↦ record {
       answered = refl;
       acts = [];
-      ending = status.To (copy.Lost 2 lost);
+      ending = status.To (fault.Lost 2 lost);
       copies = by_table lost says;
       cut = tells_at b to.unit.tape (λ f. ((table : List (List ℕ)) → TableIs f table → ⊥) → TapeCut b (source_means a) no_sink old_outside
           new_outside []) d to_told unread
@@ -490,7 +489,7 @@ module _ {A B : Type 0} (a : tapes.Meaning A) (b : tapes.Meaning B) (number : �
       to_told ends.2.told in
       inl (record {
         acts = [];
-        copies = subst (λ (s : ℕ). CopiesVolume source e side [] (status.To (copy.Lost s lost))) (sym ends.0) (by_table lost at.2);
+        copies = subst (λ (s : ℕ). CopiesVolume source e side [] (status.To (fault.Lost s lost))) (sym ends.0) (by_table lost at.2);
         did = subst (λ (zs : List Act). tapes.Done b to.unit.tape new.unit.tape (steps_of zs)) at.0 ends.2.went.did;
         quiet = refl;
         other = λ no. cc;
@@ -505,9 +504,9 @@ module _ {A B : Type 0} (a : tapes.Meaning A) (b : tapes.Meaning B) (number : �
       let none = too_long (room_in (kept_so ran.table)) n ran.input need have ran.took in
       inl (record {
         acts = copy_acts source e side ran.table [];
-        copies = subst (λ (m : ℕ). CopiesVolume source e side (copy_acts source e side ran.table []) (status.To (copy.Full m have)))
+        copies = subst (λ (m : ℕ). CopiesVolume source e side (copy_acts source e side ran.table []) (status.To (fault.Full m have)))
             none.needs
-            (subst (λ (m : ℕ). CopiesVolume source e side (copy_acts source e side ran.table []) (status.To (copy.Full n m))) none.has
+            (subst (λ (m : ℕ). CopiesVolume source e side (copy_acts source e side ran.table []) (status.To (fault.Full n m))) none.has
             (by_full ran.table ran.reads none.none));
         did = subst (λ (zs : List Act). tapes.Done b to.unit.tape new.unit.tape (steps_of zs)) (full_same ran.table none.none ran.input)
             (ran.did reply);

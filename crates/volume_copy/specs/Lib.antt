@@ -1,4 +1,3 @@
-pub mod Faults
 pub mod Given
 pub mod Lines
 pub mod Printing

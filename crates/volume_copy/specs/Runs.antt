@@ -13,18 +13,16 @@ use Rattle.drive_states.specs.Unit.{UnitView}
 use Rattle.host_driver.specs.Fits.{deck_of}
 use Rattle.qic_base.specs.Alone.{reading}
 use Rattle.volume_store.specs.Opening.{HasOpened, OpenFails}
-use Rattle.volume_copy.specs.Faults.{copy_fault, from_status, is_of_cartridge, to_status}
 use Rattle.volume_copy.specs.Source.{IsSoundSource, KeepsVolume, SourceView, new_source, source_means}
 use Rattle.volume_store.specs.Appending.{AppendEnds, FaultsUnread, KeepsFormat, KeepsList, InOrder}
 use Rattle.volume_store.specs.Mounting.{StoreView, StoreFits}
 use Rattle.volume_store.specs.declared.appended.Appended.{Appended}
-use Rattle.segment_io.specs.declared.fault.StoreFault.{StoreFault}
-use Rattle.command_spec.specs.declared.copy_fault.CopyFault.TheVariants as copy
+use Rattle.qic_base.specs.declared.store_fault.StoreFault.{StoreFault}
+use Rattle.qic_base.specs.declared.store_fault.StoreFault.TheVariants as fault
 use Rattle.command_spec.specs.declared.copy_status.CopyStatus.TheVariants as status
 use Rattle.qic_base.specs.Sink as sinks
 use Rattle.qic_base.specs.SinkCalls as sink_calls
 use Rattle.qic_base.specs.Tape as tapes
-use Rattle.segment_io.specs.declared.fault.StoreFault.TheVariants as fault
 
 -- ---- one volume
 
@@ -40,15 +38,14 @@ SideFits m side = StoreFits m side.store side.unit
 -- the answer of an append that took its bytes from the source: what that was refused for, where it failed, and else the
 -- target's own refusal
 abbrev pub append_status : StoreFault → (refused : Option StoreFault) → CopyStatus
-append_status fault.Source (Some why) = status.From (copy_fault why)
-append_status fault.Source None = status.From copy.Tape
-append_status why refused = status.To (copy_fault why)
+append_status fault.Source (Some why) = status.From why
+append_status fault.Source None = status.From fault.Tape
+append_status why refused = status.To why
 
--- it has a name in a copy
-abbrev pub is_append_fault : StoreFault → (refused : Option StoreFault) → Bool
-is_append_fault fault.Source (Some why) = is_of_cartridge why
-is_append_fault fault.Source None = false
-is_append_fault why refused = is_of_cartridge why
+-- a source that failed tells what it was refused for
+abbrev pub tells_why : StoreFault → (refused : Option StoreFault) → Bool
+tells_why fault.Source None = false
+tells_why why refused = true
 
 abbrev pub append_answer : Result Appended StoreFault → (refused : Option StoreFault) → Result ℕ CopyStatus
 append_answer (Ok appended) refused = Ok appended.bytes
@@ -153,9 +150,19 @@ ArePaired from to index alike =
 -- both were opened, and the target is protected, or a volume of it differs
 abbrev pub IsUnlike : (from to : StoreView) → CopyStatus → Type 0
 IsUnlike from to answer =
-    ((is_protected (deck_of to.host) ≡ true) × (answer ≡ status.To copy.Protected))
+    ((is_protected (deck_of to.host) ≡ true) × (answer ≡ status.To fault.Protected))
     ⊎ ((is_protected (deck_of to.host) ≡ false) × ((number : ℕ) × (difference from.words from.entries to.words to.entries 1 ≡ Some number) ×
     (answer ≡ status.Differs number)))
+
+-- the answer where the source can't be opened: its drive holds nothing, or it was refused so
+abbrev pub from_status : Option StoreFault → CopyStatus
+from_status None = status.FromAbsent
+from_status (Some why) = status.From why
+
+-- the answer where the target can't be opened
+abbrev pub to_status : Option StoreFault → CopyStatus
+to_status None = status.ToAbsent
+to_status (Some why) = status.To why
 
 -- one of them can't be opened, the target once the source was, or they aren't copied
 abbrev pub BothRefused : {A B : Type 0} (a : tapes.Meaning A) (b : tapes.Meaning B) (from : A) (from' : UnitView A) (to to' : UnitView B) →

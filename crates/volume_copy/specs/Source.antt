@@ -15,9 +15,9 @@ use Rattle.qic_base.specs.Tape.{Meaning, Broke, Done, Stops}
 use Rattle.qic_base.specs.TapeCalls.{Tells}
 use Rattle.volume_copy.specs.Given.{given_bytes}
 use Rattle.volume_store.specs.Mounting.{StoreView, StoreFits, KeepsStore}
-use Rattle.segment_io.specs.declared.fault.StoreFault.{StoreFault}
+use Rattle.qic_base.specs.declared.store_fault.StoreFault.{StoreFault}
 use Rattle.qic_base.specs.Source as sources
-use Rattle.segment_io.specs.declared.fault.StoreFault.TheVariants as fault
+use Rattle.qic_base.specs.declared.store_fault.StoreFault.TheVariants as fault
 
 -- ---- what it is seen as
 

@@ -2,16 +2,15 @@
 
 ghost use Rattle.std.specs.Prelude.{◌≡◌, ◌<◌, ◌≤◌, length, true};
 ghost use Rattle.cartridge_spec.specs.Formatting.{IsLabel};
-ghost use Rattle.volume_copy.specs.Runs.{CopiesOne, MissingEnds, PrintsCount, append_status, is_append_fault};
+ghost use Rattle.volume_copy.specs.Runs.{CopiesOne, MissingEnds, PrintsCount, append_status, tells_why};
 ghost use Rattle.volume_store.specs.Mounting.{StoreFits};
 
-use crate::fault::copy_fault;
 use crate::source::VolumeSource;
 use command_spec::CopyStatus;
 use drive_states::Unit;
-use qic_base::{Name, Sink, SinkFailed, Tape, write_text};
+use qic_base::{Name, Sink, SinkFailed, StoreFault, Tape, write_text};
 use tape_script::{number_text, place_text};
-use volume_store::{Store, StoreFault};
+use volume_store::Store;
 
 /// The source of a copy: a mounted cartridge with the unit that drives it.
 #[derive(Drop)]
@@ -23,19 +22,15 @@ pub struct Source<T: Tape> {
 /// Why an append of the source's bytes came to nothing: what the source was refused for, where that broke it off, and else
 /// the target's own refusal.
 fn append_status(fault: StoreFault, refused: Option<StoreFault>) -> CopyStatus
-    requires { is_append_fault fault refused ≡ true }
+    requires { tells_why fault refused ≡ true }
     ensures { result ≡ append_status fault refused }
 {
     match fault {
         StoreFault::Source => match refused {
-            Some(fault) => CopyStatus::From {
-                fault: copy_fault(fault),
-            },
+            Some(fault) => CopyStatus::From { fault },
             None => unreachable!("a source that fails tells why"),
         },
-        fault => CopyStatus::To {
-            fault: copy_fault(fault),
-        },
+        fault => CopyStatus::To { fault },
     }
 }
 

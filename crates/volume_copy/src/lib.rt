@@ -4,7 +4,6 @@
 
 mod comparing;
 mod copying;
-mod fault;
 mod opening;
 mod run;
 mod source;

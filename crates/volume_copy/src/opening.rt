@@ -4,10 +4,9 @@ ghost use Rattle.std.specs.Prelude.{MatchResult};
 ghost use Rattle.volume_copy.specs.Runs.{AreOpened, BothRefused};
 
 use crate::comparing::first_difference;
-use crate::fault::copy_fault;
-use command_spec::{CopyFault, CopyStatus};
+use command_spec::CopyStatus;
 use drive_states::Unit;
-use qic_base::{NoMemory, Tape};
+use qic_base::{NoMemory, StoreFault, Tape};
 use std::alloc::Global;
 use volume_store::{Room, Store, open};
 
@@ -49,24 +48,16 @@ pub fn open_both<A: Tape, B: Tape>(
     let source = match open(from, rooms.from) {
         Ok(Some(store)) => store,
         Ok(None) => return Err(CopyStatus::FromAbsent),
-        Err(fault) => {
-            return Err(CopyStatus::From {
-                fault: copy_fault(fault),
-            });
-        }
+        Err(fault) => return Err(CopyStatus::From { fault }),
     };
     let target = match open(to, rooms.to) {
         Ok(Some(store)) => store,
         Ok(None) => return Err(CopyStatus::ToAbsent),
-        Err(fault) => {
-            return Err(CopyStatus::To {
-                fault: copy_fault(fault),
-            });
-        }
+        Err(fault) => return Err(CopyStatus::To { fault }),
     };
     if target.protected() {
         return Err(CopyStatus::To {
-            fault: CopyFault::Protected,
+            fault: StoreFault::Protected,
         });
     }
     match first_difference(&source, &target) {

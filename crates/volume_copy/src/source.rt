@@ -10,9 +10,9 @@ ghost use Rattle.volume_store.specs.Mounting.{StoreFits};
 ghost use Rattle.volume_copy.specs.Source.{IsSoundSource, KeepsVolume, count_after, keeps_itself, keeps_on, new_source, pieces_of_number, source_means, unread_in};
 
 use drive_states::Unit;
-use qic_base::{Sector, Source, SourceFailed, Tape};
+use qic_base::{Sector, Source, SourceFailed, StoreFault, Tape};
 use std::marker::Model;
-use volume_store::{Store, StoreFault};
+use volume_store::Store;
 
 /// The bytes of one volume of a mounted cartridge, read segment by segment as they are asked for. A read that comes to a
 /// segment that doesn't read fails, and each behind it fails at once: the tape is not asked again. It is only read.

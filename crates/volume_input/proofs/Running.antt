@@ -21,8 +21,8 @@ use Rattle.command_spec.specs.Append.{segment_act, volume_acts, filled_acts, inp
 use Rattle.volume_input.specs.Input.{HasWritten, EndedShort, InputCut, InputEnds}
 use Rattle.volume_input.specs.Next.{NextWritten, NextBroken, NoneCame, CameShort, NextEnds, grown}
 use Rattle.sector_fill.specs.Filling.{GaveWithin}
-use Rattle.segment_io.specs.declared.fault.StoreFault.{StoreFault}
-use Rattle.segment_io.specs.declared.fault.StoreFault.TheVariants as fault
+use Rattle.qic_base.specs.declared.store_fault.StoreFault.{StoreFault}
+use Rattle.qic_base.specs.declared.store_fault.StoreFault.TheVariants as fault
 use Rattle.volume_input.specs.declared.written.Written.{Written}
 use Rattle.volume_input.proofs.Filled.{Carry, GoesOn, carry_head, carries_some, filled_more, filled_ends, volume_ends, filled_behind}
 use Rattle.volume_input.proofs.Filled.{volume_behind, volume_full, taken_full, taken_last}

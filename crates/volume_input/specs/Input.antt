@@ -6,12 +6,12 @@ use Rattle.command_spec.specs.Append.{volume_acts, filled_acts, input_acts}
 use Rattle.qic_base.specs.Acts.{Outside, Went, Failing, Cut, TapeFails, SourceFails}
 use Rattle.qic_base.specs.Alone.{no_sink}
 use Rattle.qic_base.specs.SourceCalls.{Gave, HasEnded}
-use Rattle.segment_io.specs.declared.fault.StoreFault.{StoreFault}
+use Rattle.qic_base.specs.declared.store_fault.StoreFault.{StoreFault}
 use Rattle.volume_input.specs.declared.written.Written.{Written}
 use Rattle.qic_base.specs.Source.{IsInput}
 use Rattle.qic_base.specs.Source as sources
 use Rattle.qic_base.specs.Tape as tapes
-use Rattle.segment_io.specs.declared.fault.StoreFault.TheVariants as fault
+use Rattle.qic_base.specs.declared.store_fault.StoreFault.TheVariants as fault
 
 -- ---- how it ended
 

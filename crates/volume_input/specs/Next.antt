@@ -9,8 +9,8 @@ use Rattle.qic_base.specs.Alone.{no_sink}
 use Rattle.cartridge_spec.specs.Shape.{mask_at, capacity}
 use Rattle.sector_fill.specs.Filling.{GaveUpTo, GaveWithin}
 use Rattle.command_spec.specs.Append.{segment_act}
-use Rattle.segment_io.specs.declared.fault.StoreFault.{StoreFault}
-use Rattle.segment_io.specs.declared.fault.StoreFault.TheVariants as fault
+use Rattle.qic_base.specs.declared.store_fault.StoreFault.{StoreFault}
+use Rattle.qic_base.specs.declared.store_fault.StoreFault.TheVariants as fault
 use Rattle.volume_input.specs.declared.written.Written.{Written}
 
 -- The source gave these bytes: as many as the segment carries, or as are still wanted, or fewer where it has ended and an

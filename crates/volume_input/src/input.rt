@@ -15,8 +15,8 @@ use crate::written::Written;
 use bad_sector_map::BadMap;
 use drive_states::Unit;
 use host_driver::Host;
-use qic_base::{Source, Tape};
-use segment_io::{StoreFault, Workspace};
+use qic_base::{Source, StoreFault, Tape};
+use segment_io::Workspace;
 
 /// Writes the bytes of the source, at most as many as are wanted, into the carrying segments from `first` on, each segment
 /// once its bytes have come: all its usable sectors, with zero bytes behind the last byte, and their parity. One segment

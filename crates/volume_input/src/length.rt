@@ -1,7 +1,7 @@
 //! How many bytes of a source are wanted.
 
 /// How many bytes of a source are wanted.
-#[derive(Clone, Copy, Debug, PartialEq, Eq)]
+#[derive(Clone, Copy)]
 pub struct Wanted {
     /// The most bytes.
     pub most: u32,
@@ -10,7 +10,7 @@ pub struct Wanted {
 }
 
 /// What a number of bytes that are wanted says of the source.
-#[derive(Clone, Copy, Debug, Drop, PartialEq, Eq)]
+#[derive(Clone, Copy, Drop, PartialEq, Eq)]
 pub enum Length {
     /// It may end before.
     AtMost,

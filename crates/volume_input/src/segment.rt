@@ -3,8 +3,8 @@
 ghost use Rattle.std.specs.Prelude.{◌<◌, ◌≤◌, length};
 ghost use Rattle.qic_base.specs.Alone.{reading};
 ghost use Rattle.cartridge_spec.specs.Shape.{mask_at};
-ghost use Rattle.host_driver.specs.Calls.{IsReady, MayWrite, Keeps};
-ghost use Rattle.segment_io.specs.Calls.{HasSegment};
+ghost use Rattle.host_driver.specs.Calls.{Keeps};
+ghost use Rattle.segment_io.specs.Calls.{CanWrite};
 ghost use Rattle.volume_input.specs.Length.{is_exact};
 ghost use Rattle.volume_input.specs.Next.{NextEnds};
 
@@ -13,8 +13,8 @@ use crate::length::{Length, Wanted};
 use bad_sector_map::BadMap;
 use drive_states::Unit;
 use host_driver::Host;
-use qic_base::{Source, Tape, are_sectors};
-use segment_io::{StoreFault, Workspace, write_segment};
+use qic_base::{Source, StoreFault, Tape, are_sectors};
+use segment_io::{Workspace, write_segment};
 
 /// Writes a carrying segment with the next bytes of the source, as many as it carries, and no more than are wanted with
 /// the `before` ones that stand in the segments in front of it. The answer is their number; None where none came behind
@@ -29,9 +29,7 @@ pub fn write_next<T: Tape, S: Source>(
     work: &mut Workspace,
     source: &mut S,
 ) -> Result<Option<u32>, StoreFault>
-    requires ready { IsReady T.means host.old unit.old }
-    requires writable { MayWrite unit.old.drive.deck }
-    requires segment { HasSegment unit.old.drive.deck segment (mask_at map.now segment) }
+    requires can { CanWrite T.means host.old unit.old segment (mask_at map.now segment) }
     requires map { segment < length map.now }
     requires within { before ≤ wanted.most }
     ensures ends { NextEnds T.means S.means map.now segment before

@@ -1,5 +1,5 @@
 -- One segment read and given, or not.
-use Rattle.std.proofs.Common.{◌≡◌, ◌≢◌, ℕ, ◌<◌, ◌≤◌, Bool, true, false, List, [], ◌∷◌, ◌++◌, length, take, refl, sym, ap, ◌∙◌, subst, arith}
+use Rattle.std.proofs.Common.{◌≡◌, ℕ, Bool, true, false, List, [], ◌∷◌, ◌++◌, length, take, refl, sym, ap, ◌∙◌, subst, arith}
 use Rattle.std.proofs.Common.{append-nil, codes, decimal, Result, Ok, Err, IsErr}
 use Rattle.qic_base.specs.Cartridge.{Cartridge}
 use Rattle.qic_base.proofs.Steps.{Tells-map}
@@ -7,17 +7,19 @@ use Rattle.qic_base.proofs.Writing.{TakesBoth, Wrote-Wrote, Wrote-BrokeOff, Brok
 use Rattle.qic_base.specs.Acts.{Act, text_of, TapeFails, SinkFails, Went, Cut}
 use Rattle.qic_base.specs.Alone.{no_source, around}
 use Rattle.qic_base.proofs.Joins.{cut_is_longer, broke_first}
+use Rattle.cartridge_spec.specs.Code.{IsCodeBlock}
 use Rattle.cartridge_spec.specs.Says.{cells_of, Says, Data, LostSectors}
 use Rattle.cartridge_laws.specs.Segment.{data_of}
 use Rattle.cartridge_spec.specs.Shape.{mask_at, usable_count}
 use Rattle.cartridge_laws.proofs.Segments.{count_of_cells}
 use Rattle.cartridge_spec.specs.Volumes.{bytes_in}
 use Rattle.segment_io.specs.Faults.{store_fault}
-use Rattle.segment_io.specs.Reading.{HasSolved, OnlyReads, Solves}
+use Rattle.segment_io.specs.Reading.{HasSolved, Solves, IsRead}
 use Rattle.segment_io.specs.declared.fault.SegFault.{SegFault}
 use Rattle.segment_io.proofs.Going.{tells_always}
 use Rattle.command_spec.specs.Numbers.{AreTooMany}
-use Rattle.command_spec.specs.Restore.{Piece, GivingEnd, Restored, LostIn, MismatchIn, IsRead, PieceEnds, Restores}
+use Rattle.command_spec.specs.Restore.{Piece, GivingEnd, Restored, LostIn, MismatchIn, PieceEnds, Restores}
+use Rattle.command_spec.specs.Restore as restore
 use Rattle.command_laws.specs.RestoreTerms.{act_of}
 use Rattle.command_laws.proofs.RestoreEndings.{restores_is_function}
 use Rattle.command_laws.specs.OutputText.{printed}
@@ -76,17 +78,21 @@ module _ (lined : Bool) (segment count : ℕ) (sectors : List (List ℕ)) (is : 
 -- ---- the ends
 
 -- what a reading answers by a fault
-abbrev failed_by : SegFault → Result ℕ SegFault
+abbrev pub failed_by : SegFault → Result ℕ SegFault
 failed_by why = Err why
 
--- the reading of a segment ended by this fault
-pub record IsUnread {T : Type 0} (t : tapes.Meaning T) (segment mask : ℕ) (old new : T) (sectors : List (List ℕ)) (why : SegFault) :
-    Type 0 where
-  pub did : OnlyReads t old new (failed_by why)
-  pub solves : failed_by why ≢ failed_by seg.Tape →
-      tape_calls.Tells t old (λ c. Solves segment (cells_of c segment mask) sectors (failed_by why))
-  pub many : (named n : ℕ) → failed_by why ≡ failed_by (seg.Lost named n) → (named ≡ segment) × (3 < n) × (n ≤ 32)
-  pub mismatch : (named : ℕ) → failed_by why ≡ failed_by (seg.Mismatch named) → named ≡ segment
+-- what it answers where it has the sectors
+pub read_block : (segment mask : ℕ) (sectors : List (List ℕ)) (answer : Result ℕ SegFault) (unread : ℕ) → answer ≡ Ok unread →
+    IsRead segment mask sectors answer → IsCodeBlock (take (usable_count mask) sectors)
+read_block segment mask sectors answer unread is read =
+    let right : IsRead segment mask sectors (Ok unread) = subst (IsRead segment mask sectors) is read in
+    right.block
+
+pub read_solved : {T : Type 0} (t : tapes.Meaning T) (old : T) (segment mask : ℕ) (sectors : List (List ℕ)) (answer : Result ℕ SegFault)
+    (unread : ℕ) → answer ≡ Ok unread → tape_calls.Tells t old (λ c. Solves segment (cells_of c segment mask) sectors answer) →
+    tape_calls.Tells t old (λ c. HasSolved (cells_of c segment mask) sectors)
+read_solved t old segment mask sectors answer unread is told =
+    subst (λ (r : Result ℕ SegFault). tape_calls.Tells t old (λ c. Solves segment (cells_of c segment mask) sectors r)) is told
 
 module _ {T K : Type 0} (t : tapes.Meaning T) (k : sinks.Meaning K) (words : List ℕ) (segment count mask : ℕ)
     (is : mask ≡ mask_at words segment) (lined : Bool) (old new : T) where
@@ -125,7 +131,7 @@ module _ {T K : Type 0} (t : tapes.Meaning T) (k : sinks.Meaning K) (words : Lis
       (sym same)
 
   -- the tape failed before the first act was done
-  unread : (sink : K) → ((x : K) → k.took x [] x) → tapes.Broke t old new [] →
+  pub unread : (sink : K) → ((x : K) → k.took x [] x) → tapes.Broke t old new [] →
       VolumeCut t k words (piece ∷ []) lined (around old sink) (around new sink) TapeFails
   unread sink none broke = record {
     told = tells_always t old
@@ -149,14 +155,13 @@ module _ {T K : Type 0} (t : tapes.Meaning T) (k : sinks.Meaning K) (words : Lis
       })
 
   -- by the fault of its reading
-  pub not_read : (sectors : List (List ℕ)) (sink : K) → ((x : K) → k.took x [] x) → (why : SegFault) →
-      IsUnread t segment mask old new sectors why →
+  pub not_read : (sectors : List (List ℕ)) (sink : K) → ((x : K) → k.took x [] x) → tapes.Done t old new [] → (why : SegFault) →
+      IsRead segment mask sectors (Err why) →
+      tape_calls.Tells t old (λ c. Solves segment (cells_of c segment mask) sectors (failed_by why)) →
       OutputEnds t k words (piece ∷ []) lined (around old sink) (around new sink) (Err (store_fault why))
-  not_read sectors sink none (seg.Lost named n) ends =
-      let so = ends.many named n refl in lost sink none ends.did named n so.0 (so.1, so.2) (ends.solves (λ same. cc))
-  not_read sectors sink none (seg.Mismatch named) ends =
-      mismatch sink none ends.did named (ends.mismatch named refl) (ends.solves (λ same. cc))
-  not_read sectors sink none seg.Tape ends = unread sink none ends.did
+  not_read sectors sink none did (seg.Lost named n) read told =
+      let so = read.many named n refl in lost sink none did named n so.0 (so.1, so.2) told
+  not_read sectors sink none did (seg.Mismatch named) read told = mismatch sink none did named (read.mismatch named refl) told
 
   -- ---- the segment was read
 
@@ -164,7 +169,7 @@ module _ {T K : Type 0} (t : tapes.Meaning T) (k : sinks.Meaning K) (words : Lis
     abbrev act : Act
     act = act_of piece sectors
 
-    is_read : (c : Cartridge) → HasSolved (cells_of c segment mask) sectors → IsRead c words piece act
+    is_read : (c : Cartridge) → HasSolved (cells_of c segment mask) sectors → restore.IsRead c words piece act
     is_read c solved =
         let n : length (cells_of c segment mask) ≡ usable_count mask = count_of_cells c segment mask in
         let shown : List (List ℕ) = data_of (take (usable_count mask) sectors) in

@@ -12,7 +12,7 @@ use Rattle.cartridge_spec.specs.Volumes.{carrying}
 use Rattle.cartridge_laws.proofs.MountWriting.{places_that, places_none, places_passes, places_fails}
 use Rattle.cartridge_laws.proofs.AppendSegments.{carries, carried, carrying_are}
 use Rattle.command_spec.specs.Restore.{Piece, Restored, pieces_of}
-use Rattle.segment_io.specs.declared.fault.StoreFault.{StoreFault}
+use Rattle.qic_base.specs.declared.store_fault.StoreFault.{StoreFault}
 use Rattle.volume_output.specs.Output.{GaveVolume, OutputEnds}
 use Rattle.volume_output.specs.Piece.{piece_of}
 use Rattle.volume_output.proofs.Joining.{gave_none, ends_behind, ends_there}

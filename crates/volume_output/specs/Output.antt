@@ -5,11 +5,11 @@ use Rattle.command_spec.specs.Restore.{Piece, GivingEnd, Restores, Restored, Los
 use Rattle.command_laws.specs.RestoreTerms.{EndsAt}
 use Rattle.qic_base.specs.Acts.{Act, Outside, Went, Failing, Cut, TapeFails, SinkFails}
 use Rattle.qic_base.specs.Alone.{no_source}
-use Rattle.segment_io.specs.declared.fault.StoreFault.{StoreFault}
+use Rattle.qic_base.specs.declared.store_fault.StoreFault.{StoreFault}
 use Rattle.qic_base.specs.Sink as sinks
 use Rattle.qic_base.specs.Tape as tapes
 use Rattle.qic_base.specs.TapeCalls as tape_calls
-use Rattle.segment_io.specs.declared.fault.StoreFault.TheVariants as fault
+use Rattle.qic_base.specs.declared.store_fault.StoreFault.TheVariants as fault
 
 -- The pieces were read up to this ending, and the sink took their bytes.
 pub record GaveVolume {T K : Type 0} (t : tapes.Meaning T) (k : sinks.Meaning K) (words : List ℕ) (needed : List Piece) (lined : Bool)

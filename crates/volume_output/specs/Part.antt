@@ -6,12 +6,12 @@ use Rattle.cartridge_spec.specs.Shape.{mask_at, data_count}
 use Rattle.command_spec.specs.Numbers.{AreTooMany}
 use Rattle.command_spec.specs.Restore.{Piece, PieceEnds, LostIn, MismatchIn, piece_cells}
 use Rattle.volume_output.specs.Piece.{piece_of}
-use Rattle.segment_io.specs.declared.fault.StoreFault.{StoreFault}
+use Rattle.qic_base.specs.declared.store_fault.StoreFault.{StoreFault}
 use Rattle.volume_output.specs.declared.part.PartRead.{PartRead}
 use Rattle.volume_output.specs.declared.part.Place.{Place}
 use Rattle.qic_base.specs.Tape as tapes
 use Rattle.qic_base.specs.TapeCalls as tape_calls
-use Rattle.segment_io.specs.declared.fault.StoreFault.TheVariants as fault
+use Rattle.qic_base.specs.declared.store_fault.StoreFault.TheVariants as fault
 
 -- the piece that a place is
 abbrev pub piece_at : Place → Piece

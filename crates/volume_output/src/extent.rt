@@ -1,7 +1,7 @@
 //! Where a volume lies.
 
 /// The segments in which a volume lies, and how many of its first bytes are asked for.
-#[derive(Clone, Copy, Debug, PartialEq, Eq)]
+#[derive(Clone, Copy)]
 pub struct Extent {
     /// The first segment, counted from 0.
     pub start: u16,

@@ -1,7 +1,7 @@
 //! The forms in which a volume's bytes are given.
 
 /// How the bytes of a segment are given to a sink.
-#[derive(Clone, Copy, Debug, Drop, PartialEq, Eq)]
+#[derive(Clone, Copy, Drop)]
 pub enum Form {
     /// The bytes alone.
     Alone,

@@ -18,8 +18,8 @@ use crate::piece::write_piece;
 use bad_sector_map::BadMap;
 use drive_states::Unit;
 use host_driver::Host;
-use qic_base::{Sink, Tape};
-use segment_io::{StoreFault, Workspace};
+use qic_base::{Sink, StoreFault, Tape};
+use segment_io::Workspace;
 
 /// Reads a volume's first bytes, as many as are asked for, segment by segment, and hands each segment's bytes to the sink
 /// in this form, once the whole segment agrees. A segment that holds none of these bytes is not read. The first one that

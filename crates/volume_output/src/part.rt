@@ -15,19 +15,19 @@ use crate::extent::Extent;
 use bad_sector_map::BadMap;
 use drive_states::Unit;
 use host_driver::Host;
-use qic_base::Tape;
-use segment_io::{StoreFault, Workspace, read_segment};
+use qic_base::{StoreFault, Tape};
+use segment_io::{Workspace, read_segment};
 
 /// A piece of a volume that was read: how many bytes of the volume lie in its segment, 1 or more, and how many data
 /// sectors the segment has. They stand in the first places of the workspace.
-#[derive(Clone, Copy, Debug, PartialEq, Eq)]
+#[derive(Clone, Copy)]
 pub struct PartRead {
     pub bytes: u32,
     pub sectors: u32,
 }
 
 /// Where a piece of a volume lies: its segment, and how many bytes of the volume that holds.
-#[derive(Clone, Copy, Debug, PartialEq, Eq)]
+#[derive(Clone, Copy)]
 pub(crate) struct Place {
     pub(crate) segment: u32,
     pub(crate) count: u32,
@@ -85,7 +85,7 @@ pub fn read_part<T: Tape>(
         None => return Ok(None),
     };
     let usable = map.usable(place.segment);
-    read_segment(host, unit, place.segment, usable, work)?;
+    read_segment(host, unit, place.segment, usable, work)??;
     Ok(Some(PartRead {
         bytes: place.count,
         sectors: map.capacity(place.segment) / 1024,

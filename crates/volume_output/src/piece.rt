@@ -1,12 +1,11 @@
 //! One segment's bytes.
 
-ghost use Rattle.std.specs.Prelude.{◌≡◌, ◌*◌, ◌≤◌, ℕ, List, [], ◌∷◌, ◌++◌, true, length, codes, decimal};
+ghost use Rattle.std.specs.Prelude.{◌≡◌, ◌*◌, ◌≤◌, ℕ, List, [], ◌∷◌, ◌++◌, length, codes, decimal};
 ghost use Rattle.qic_base.specs.SinkCalls.{Writes};
 ghost use Rattle.qic_base.specs.Alone.{around};
 ghost use Rattle.cartridge_spec.specs.Shape.{mask_at, capacity};
-ghost use Rattle.drive_states.specs.Reach.{reads_in};
-ghost use Rattle.host_driver.specs.Calls.{IsReady, Keeps};
-ghost use Rattle.segment_io.specs.Calls.{HasSegment};
+ghost use Rattle.host_driver.specs.Calls.{Keeps};
+ghost use Rattle.segment_io.specs.Calls.{CanRead};
 ghost use Rattle.volume_output.specs.Form.{is_lined};
 ghost use Rattle.volume_output.specs.Output.{OutputEnds};
 ghost use Rattle.volume_output.specs.Piece.{piece_of, part_text};
@@ -16,8 +15,8 @@ use crate::part::Place;
 use crate::sectors::write_bytes;
 use drive_states::Unit;
 use host_driver::Host;
-use qic_base::{Sector, Sink, SinkFailed, Tape, write_text};
-use segment_io::{StoreFault, Workspace, read_segment};
+use qic_base::{Sector, Sink, SinkFailed, StoreFault, Tape, write_text};
+use segment_io::{Workspace, read_segment};
 use tape_script::TextLine;
 
 /// Reads the segment of a piece, with these usable sectors, and hands the piece's bytes to the sink once it agrees.
@@ -30,16 +29,14 @@ pub(crate) fn write_piece<T: Tape, K: Sink>(
     work: &mut Workspace,
     sink: &mut K,
 ) -> Result<(), StoreFault>
-    requires ready { IsReady T.means host.old unit.old }
-    requires segment { HasSegment unit.old.drive.deck place.segment usable }
-    requires mode { reads_in unit.old.drive.deck.mode ≡ true }
+    requires can { CanRead T.means host.old unit.old place.segment usable }
     requires within { place.count ≤ capacity usable }
     ensures ends { (words : List ℕ) → usable ≡ mask_at words place.segment →
         OutputEnds T.means K.means words (piece_of place.segment place.count ∷ []) (is_lined form)
         (around unit.old.tape sink.old) (around unit.new.tape sink.new) result }
     ensures keeps { Keeps T.means host.new unit.old unit.new }
 {
-    read_segment(host, unit, place.segment, usable, work)?;
+    read_segment(host, unit, place.segment, usable, work)??;
     write_part(work.sectors(), place.count, form, sink)?;
     Ok(())
 }

@@ -46,7 +46,7 @@ use Rattle.command_laws.proofs.ScriptLifting.{TakesNone, read_went, read_cut, re
 use Rattle.volume_script.proofs.Content.{BehindBytes, GivenAs, any_bytes, behind_bytes, content_both, given_as, limit_untold, taken_content}
 use Rattle.volume_script.proofs.Quiet.{unmarked}
 use Rattle.command_laws.proofs.ScriptPlain.{line_one, meets_one}
-use Rattle.segment_io.specs.declared.fault.StoreFault.{StoreFault}
+use Rattle.qic_base.specs.declared.store_fault.StoreFault.{StoreFault}
 use Rattle.cartridge_laws.proofs.MountOnce.{not_lost}
 use Rattle.volume_store.proofs.Taking.{front_of}
 use Rattle.qic_base.specs.Disk.{AreBytes}
@@ -59,7 +59,7 @@ use Rattle.qic_base.specs.Source as sources
 use Rattle.qic_base.specs.Tape as tapes
 use Rattle.qic_base.specs.TapeCalls as tape_calls
 use Rattle.command_spec.specs.declared.line.Line.TheVariants as line
-use Rattle.segment_io.specs.declared.fault.StoreFault.TheVariants as fault
+use Rattle.qic_base.specs.declared.store_fault.StoreFault.TheVariants as fault
 use Rattle.command_spec.specs.declared.refusal.Refusal.TheVariants as why
 use Rattle.command_spec.specs.Script as script
 

@@ -5,6 +5,7 @@ use Rattle.std.specs.Option.{option_map_or}
 use Rattle.std.specs.Prelude.{◌↔◌}
 use Rattle.qic_base.specs.Cartridge.{Cartridge, IsPlace}
 use Rattle.qic_base.specs.declared.sink.SinkFailed.{SinkFailed}
+use Rattle.qic_base.specs.declared.tape.TapeFailed.{TapeFailed}
 use Rattle.qic_base.specs.declared.tape.TapeInfo.{TapeInfo}
 use Rattle.qic_base.specs.Step.{Wear}
 use Rattle.qic_base.proofs.Steps.{Tells-map, tells_two}
@@ -15,8 +16,7 @@ use Rattle.qic_base.proofs.Joins.{cut_is_longer, sink_cut_one}
 use Rattle.cartridge_spec.specs.Table.{Entry}
 use Rattle.cartridge_spec.specs.Volumes.{volume_length}
 use Rattle.drive_spec.specs.Deck.{segments_per_track}
-use Rattle.drive_states.specs.declared.fault.HandFault.{HandFault}
-use Rattle.drive_states.specs.Hand.{Wears}
+use Rattle.drive_states.specs.Hand.{HandAnswer, Wears}
 use Rattle.drive_states.specs.Unit.{UnitView}
 use Rattle.host_driver.specs.Fits.{segments_of}
 use Rattle.command_spec.specs.Restore.{Restored, LostIn, MismatchIn, Restores, framed, pieces, volume_at}
@@ -52,8 +52,8 @@ use Rattle.qic_base.specs.TapeCalls as tape_calls
 use Rattle.drive_states.specs.declared.fault.HandFault.TheVariants as hand
 use Rattle.command_spec.specs.Restore as restoring
 use Rattle.command_spec.specs.declared.line.Line.TheVariants as line
-use Rattle.segment_io.specs.declared.fault.StoreFault.{StoreFault}
-use Rattle.segment_io.specs.declared.fault.StoreFault.TheVariants as fault
+use Rattle.qic_base.specs.declared.store_fault.StoreFault.{StoreFault}
+use Rattle.qic_base.specs.declared.store_fault.StoreFault.TheVariants as fault
 use Rattle.command_spec.specs.declared.refusal.Refusal.TheVariants as why
 
 -- where an answer does not come that just a protected cartridge has
@@ -367,13 +367,14 @@ length_told t store u fits =
     by_cartridge (Some info) known = known
 
 -- what a call for a sector answered: it was worn, or there is none
-pub data Wearing {T : Type 0} (t : tapes.Meaning T) (old new : UnitView T) (segment sector : ℕ) : Result (Unit {0}) HandFault → Type 0 where
-  Worn : {r : Result (Unit {0}) HandFault} → IsPlace (segments_per_track old.drive.deck) segment sector → Wears t old new segment sector r →
+pub data Wearing {T : Type 0} (t : tapes.Meaning T) (old new : UnitView T) (segment sector : ℕ) : HandAnswer (Unit {0}) → Type 0 where
+  Worn : {r : HandAnswer (Unit {0})} → IsPlace (segments_per_track old.drive.deck) segment sector → Wears t old new segment sector r →
       Wearing t old new segment sector r
-  Absent : ¬ (IsPlace (segments_per_track old.drive.deck) segment sector) → new ≡ old → Wearing t old new segment sector (Err hand.BadPlace)
+  Absent : ¬ (IsPlace (segments_per_track old.drive.deck) segment sector) → new ≡ old →
+      Wearing t old new segment sector (Ok (Err hand.BadPlace))
 
-pub wearing : {T : Type 0} (t : tapes.Meaning T) (old new : UnitView T) (segment sector : ℕ) (r : Result (Unit {0}) HandFault) →
-    (¬ (IsPlace (segments_per_track old.drive.deck) segment sector) → (r ≡ Err hand.BadPlace) × (new ≡ old)) →
+pub wearing : {T : Type 0} (t : tapes.Meaning T) (old new : UnitView T) (segment sector : ℕ) (r : HandAnswer (Unit {0})) →
+    (¬ (IsPlace (segments_per_track old.drive.deck) segment sector) → (r ≡ Ok (Err hand.BadPlace)) × (new ≡ old)) →
     (IsPlace (segments_per_track old.drive.deck) segment sector → Wears t old new segment sector r) → Wearing t old new segment sector r
 wearing {T} t old new segment sector r misplaced placed = by_place (place_or_not (segments_per_track old.drive.deck) segment sector)
   where
@@ -382,7 +383,7 @@ wearing {T} t old new segment sector r misplaced placed = by_place (place_or_not
     by_place (inl place) = Worn place (placed place)
     by_place (inr none) =
         let is = misplaced none in
-        subst (λ (answer : Result (Unit {0}) HandFault). Wearing t old new segment sector answer) (sym is.0) (Absent none is.1)
+        subst (λ (answer : HandAnswer (Unit {0})). Wearing t old new segment sector answer) (sym is.0) (Absent none is.1)
 
 module _ {T S K : Type 0} (t : tapes.Meaning T) (s : sources.Meaning S) (k : sinks.Meaning K) (store : StoreView) (old new : UnitView T)
     (segment sector : ℕ) (i : S) (x y : K) (fits : StoreFits t store old) where
@@ -400,7 +401,7 @@ module _ {T S K : Type 0} (t : tapes.Meaning T) (s : sources.Meaning S) (k : sin
       (λ c. LineDoes c store.words store.entries loses [] (record { acts = worn_act ∷ []; entries = store.entries }))
       (λ c is. inr (subst (λ (n : ℕ). IsPlace n segment sector) (sym is) place, refl)) (length_told t store old fits)
 
-  pub worn_ends : TakesBoth k → TakesNone k → (r : Result (Unit {0}) SinkFailed) → Wearing t old new segment sector (Ok tt) →
+  pub worn_ends : TakesBoth k → TakesNone k → (r : Result (Unit {0}) SinkFailed) → Wearing t old new segment sector (Ok (Ok tt)) →
       sink_calls.Writes k x y (lost_line segment sector) r →
       ItemEnds t s k store store (outside old.tape i x) (outside new.tape i y) loses (replied_so r)
   worn_ends both none (Ok done) (Worn place did) wrote =
@@ -415,7 +416,8 @@ module _ {T S K : Type 0} (t : tapes.Meaning T) (s : sources.Meaning S) (k : sin
       known_cut t s k store store loses refl old.tape new.tape i x y SinkFails (record { acts = worn_act ∷ []; entries = store.entries })
       (sink_cut_one t s k (outside old.tape i x) (outside new.tape i y) worn_act did broke (omega arith)) (worn_does place)
 
-  pub absent_ends : TakesBoth k → TakesNone k → (r : Result (Unit {0}) SinkFailed) → Wearing t old new segment sector (Err hand.BadPlace) →
+  pub absent_ends : TakesBoth k → TakesNone k → (r : Result (Unit {0}) SinkFailed) →
+      Wearing t old new segment sector (Ok (Err hand.BadPlace)) →
       sink_calls.Writes k x y (refusal_line (why.Place segment sector)) r → ItemEnds t s k store store (outside old.tape i x)
       (outside new.tape i y) loses (replied_so r)
   absent_ends both none r (Worn place did) wrote = absurd did
@@ -443,9 +445,6 @@ module _ {T S K : Type 0} (t : tapes.Meaning T) (s : sources.Meaning S) (k : sin
         source_later = omega arith;
       }) (worn_does place)
 
-  pub wear_failed : TakesNone k → (f : HandFault) → f ≢ hand.BadPlace → Wearing t old new segment sector (Err f) →
+  pub wear_failed : TakesNone k → (f : TapeFailed) → Wearing t old new segment sector (Err f) →
       ItemCut t s k store (outside old.tape i x) (outside new.tape i x) loses TapeFails
-  wear_failed none hand.NoCartridge other (Worn place did) = absurd did
-  wear_failed none hand.BadPlace other wearing = absurd (other refl)
-  wear_failed none hand.Tape other (Worn place did) = broke_ends none place did
-  wear_failed none hand.NotBlank other (Worn place did) = absurd did
+  wear_failed none f (Worn place did) = broke_ends none place did

@@ -6,7 +6,7 @@ use Rattle.qic_base.specs.Alone.{reading}
 use Rattle.volume_store.specs.Appending.{AppendEnds, FaultsUnread}
 use Rattle.volume_store.specs.Mounting.{StoreView}
 use Rattle.volume_store.specs.declared.appended.Appended.{Appended}
-use Rattle.segment_io.specs.declared.fault.StoreFault.{StoreFault}
+use Rattle.qic_base.specs.declared.store_fault.StoreFault.{StoreFault}
 use Rattle.volume_script.specs.declared.limited.Limited.{Limited}
 use Rattle.volume_script.specs.Limited.{Lends, limited_means}
 

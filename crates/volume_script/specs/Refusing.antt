@@ -9,9 +9,9 @@ use Rattle.qic_base.specs.SourceCalls.{Gave, HasEnded}
 use Rattle.tape_script.specs.Reading.{Skips}
 use Rattle.command_spec.specs.Script.{refusal_line}
 use Rattle.command_spec.specs.declared.refusal.Refusal.{Refusal}
-use Rattle.segment_io.specs.declared.fault.StoreFault.{StoreFault}
+use Rattle.qic_base.specs.declared.store_fault.StoreFault.{StoreFault}
 use Rattle.command_spec.specs.declared.refusal.Refusal.TheVariants as why
-use Rattle.segment_io.specs.declared.fault.StoreFault.TheVariants as fault
+use Rattle.qic_base.specs.declared.store_fault.StoreFault.TheVariants as fault
 
 -- what a line is refused for behind a fault; nothing behind one that ends the script
 abbrev pub refusal_of : StoreFault → Option Refusal

@@ -12,12 +12,12 @@ ghost use Rattle.volume_script.specs.Refusing.{Refuses};
 use crate::limited::Limited;
 use crate::replies::{refusal_for, replied, write_refusal};
 use drive_states::Unit;
-use qic_base::{Name, Sink, Source, Tape, write_text};
+use qic_base::{Name, Sink, Source, StoreFault, Tape, write_text};
 use tape_script::skip;
-use volume_store::{Appended, Store, StoreFault, appended_text};
+use volume_store::{Appended, Store, appended_text};
 
 /// What an append answered, and how many of the promised bytes it left in the source.
-#[derive(Clone, Copy, Debug, PartialEq, Eq)]
+#[derive(Clone, Copy)]
 pub struct Promised {
     pub answer: Result<Appended, StoreFault>,
     pub left: u32,

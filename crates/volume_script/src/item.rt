@@ -12,9 +12,9 @@ use crate::replies::replied;
 use crate::restore::restore;
 use crate::scrub::scrub;
 use drive_states::Unit;
-use qic_base::{Sink, Source, Tape};
+use qic_base::{Sink, Source, StoreFault, Tape};
 use tape_script::Line;
-use volume_store::{Store, StoreFault, write_list};
+use volume_store::{Store, write_list};
 
 /// Prints the volumes as they are listed now.
 fn list<T: Tape, S: Source, K: Sink>(

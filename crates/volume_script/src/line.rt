@@ -9,9 +9,9 @@ ghost use Rattle.volume_script.specs.Heard.{Hears, longest};
 use crate::item::carry_out;
 use command_spec::Status;
 use drive_states::Unit;
-use qic_base::{Sink, Source, SourceFailed, Tape};
+use qic_base::{Sink, Source, SourceFailed, StoreFault, Tape};
 use tape_script::{Line, LineRead, read_line};
-use volume_store::{Store, StoreFault};
+use volume_store::Store;
 
 /// The number of bytes that follow a line at once.
 fn promised(line: &Line) -> u32

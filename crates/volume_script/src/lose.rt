@@ -8,9 +8,9 @@ ghost use Rattle.volume_script.specs.Items.{ItemEnds};
 use crate::replies::{replied, write_refusal};
 use command_spec::Refusal;
 use drive_states::{HandFault, Unit};
-use qic_base::{Sink, Source, Tape, write_text};
+use qic_base::{Sink, Source, StoreFault, Tape, write_text};
 use tape_script::place_text;
-use volume_store::{Store, StoreFault};
+use volume_store::Store;
 
 /// Makes a readable sector unreadable, until it is written again.
 pub fn lose<T: Tape, S: Source, K: Sink>(
@@ -30,7 +30,7 @@ pub fn lose<T: Tape, S: Source, K: Sink>(
     ensures store { store.new ≡ store.old }
     ensures source { source.new ≡ source.old }
 {
-    match store.wear(unit, segment, sector) {
+    match store.wear(unit, segment, sector)? {
         Ok(()) => {
             let text = place_text(b"lost", u64::from(segment), u64::from(sector));
             replied(write_text(text.bytes(), sink))
@@ -38,7 +38,6 @@ pub fn lose<T: Tape, S: Source, K: Sink>(
         Err(HandFault::BadPlace) => {
             replied(write_refusal(Refusal::Place { segment, sector }, sink))
         }
-        Err(HandFault::Tape) => Err(StoreFault::Tape),
         Err(HandFault::NoCartridge | HandFault::NotBlank) => {
             unreachable!("the cartridge is there, and a sector is worn whatever it holds")
         }

@@ -7,9 +7,8 @@ ghost use Rattle.command_laws.specs.ScriptTerms.{restored_line};
 ghost use Rattle.volume_script.specs.Refusing.{RepliesTo, refusal_of, replied_so};
 
 use command_spec::Refusal;
-use qic_base::{Sink, SinkFailed, write_text};
+use qic_base::{Sink, SinkFailed, StoreFault, write_text};
 use tape_script::{TextLine, number_text, place_text};
-use volume_store::StoreFault;
 
 #[tactic(auto, unfolding(command_spec::specs::Script::no_volume_line))]
 fn no_volume_text(number: u32, count: u32) -> TextLine

@@ -7,8 +7,8 @@ ghost use Rattle.volume_script.specs.Items.{ItemEnds};
 
 use crate::replies::{replied, reply_refused, write_restored};
 use drive_states::Unit;
-use qic_base::{Sink, Source, Tape};
-use volume_store::{Form, Store, StoreFault};
+use qic_base::{Sink, Source, StoreFault, Tape};
+use volume_store::{Form, Store};
 
 /// Gives a volume's bytes segment by segment, each behind a line with their number, and last the volume's number and
 /// length.

@@ -7,8 +7,8 @@ ghost use Rattle.volume_script.specs.Items.{ItemEnds};
 
 use crate::replies::reply_refused;
 use drive_states::Unit;
-use qic_base::{Sink, Source, Tape};
-use volume_store::{Store, StoreFault};
+use qic_base::{Sink, Source, StoreFault, Tape};
+use volume_store::Store;
 
 /// Writes unreadable sectors again where they can be found; a protected cartridge is refused.
 pub fn scrub<T: Tape, S: Source, K: Sink>(

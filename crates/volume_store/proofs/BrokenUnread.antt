@@ -12,8 +12,8 @@ use Rattle.cartridge_spec.specs.TableSegment.{TableIs}
 use Rattle.cartridge_spec.specs.Settling.{settling_steps}
 use Rattle.segment_io.proofs.Going.{tells_always}
 use Rattle.volume_store.specs.declared.appended.Appended.{Appended}
-use Rattle.segment_io.specs.declared.fault.StoreFault.{StoreFault}
-use Rattle.segment_io.specs.declared.fault.StoreFault.TheVariants as fault
+use Rattle.qic_base.specs.declared.store_fault.StoreFault.{StoreFault}
+use Rattle.qic_base.specs.declared.store_fault.StoreFault.TheVariants as fault
 use Rattle.cartridge_front.specs.Again.{FaultUnread, IsOfReading}
 use Rattle.volume_store.specs.Appending.{CutUnread, FaultsUnread}
 

@@ -44,13 +44,13 @@ use Rattle.volume_store.specs.Appending.{AppendEnds, kept_by, InputWent, InputWr
 use Rattle.volume_store.specs.Appending.{AppendCut, TableRefused, most_asked}
 use Rattle.volume_store.specs.Mounting.{StoreView}
 use Rattle.volume_store.specs.declared.appended.Appended.{Appended}
-use Rattle.segment_io.specs.declared.fault.StoreFault.{StoreFault}
+use Rattle.qic_base.specs.declared.store_fault.StoreFault.{StoreFault}
 use Rattle.volume_input.proofs.Running.{no_text}
 use Rattle.cartridge_laws.proofs.MountOnce.{one_table, not_lost}
 use Rattle.qic_base.specs.SourceCalls.{input_of}
 use Rattle.qic_base.specs.Tape as tapes
 use Rattle.qic_base.specs.Source as sources
-use Rattle.segment_io.specs.declared.fault.StoreFault.TheVariants as fault
+use Rattle.qic_base.specs.declared.store_fault.StoreFault.TheVariants as fault
 
 -- ---- a told cartridge
 

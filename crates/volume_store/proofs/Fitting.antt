@@ -33,7 +33,7 @@ use Rattle.host_driver.specs.declared.host.Host.{Host}
 use Rattle.host_driver.specs.Calls.{Keeps}
 use Rattle.host_driver.specs.Fits.{segments_of}
 use Rattle.cartridge_laws.proofs.MountWhole.{table_is_area}
-use Rattle.segment_io.specs.declared.fault.StoreFault.{StoreFault}
+use Rattle.qic_base.specs.declared.store_fault.StoreFault.{StoreFault}
 use Rattle.cartridge_front.specs.Again.{IsSettledAgain, IsAdded, SettlesAgain, AddsEntry, entry_writes}
 use Rattle.command_spec.specs.Append.{input_writes}
 use Rattle.volume_store.specs.Appending.{InputIs}
@@ -46,7 +46,7 @@ use Rattle.drive_spec.specs.Terms.{is_protected}
 use Rattle.cartridge_front.proofs.Copies.{IsLearnt, told_learnt}
 use Rattle.qic_base.specs.Source as sources
 use Rattle.qic_base.specs.Tape as tapes
-use Rattle.segment_io.specs.declared.fault.StoreFault.TheVariants as fault
+use Rattle.qic_base.specs.declared.store_fault.StoreFault.TheVariants as fault
 use Rattle.qic_base.specs.TapeCalls as tape_calls
 
 forth : {T : Type 0} (m : Meaning T) (old new : T) (steps : List Step) (P : Cartridge → Type 0) → (m.told old ≡ Some None → ⊥) →

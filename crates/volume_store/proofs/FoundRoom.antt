@@ -1,6 +1,6 @@
 -- How a look at a cartridge ends, by how its reading did.
 use Rattle.std.proofs.Common.{◌≡◌, ◌≢◌, ℕ, List, [], true, Option, Some, None, IfSome, IsSomeAnd, Err}
-use Rattle.segment_io.specs.declared.fault.StoreFault.{StoreFault}
+use Rattle.qic_base.specs.declared.store_fault.StoreFault.{StoreFault}
 use Rattle.cartridge_front.specs.declared.learning.Learnt.{Learnt}
 use Rattle.cartridge_front.specs.Finding.{is_of_mounting, Leaves, NamesCause}
 use Rattle.cartridge_front.specs.Learning.{HasLearnt, MountRefuses}
@@ -17,7 +17,7 @@ use Rattle.volume_store.proofs.Started.{Present, told_known_beside, told_at_star
 use Rattle.volume_store.specs.Looking.{FindsRoom, HasVolumes, LookFails}
 use Rattle.qic_base.specs.Tape as tapes
 use Rattle.qic_base.specs.TapeCalls as tape_calls
-use Rattle.segment_io.specs.declared.fault.StoreFault.TheVariants as fault
+use Rattle.qic_base.specs.declared.store_fault.StoreFault.TheVariants as fault
 
 there_is : (info : TapeInfo) (P : Cartridge → Type 0) (held : Option Cartridge) → IsInfoOf (Some info) held → IfSome held P → IsSomeAnd
     held P

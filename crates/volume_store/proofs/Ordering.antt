@@ -22,12 +22,12 @@ use Rattle.volume_store.specs.Appending.{AskedFor, AsksInRoom, CutBeforeEntry, H
 use Rattle.volume_store.specs.Appending.{InputWritten, ListsLast, MayAsk, acts_before_entry, kept_by}
 use Rattle.volume_store.specs.Mounting.{StoreView}
 use Rattle.volume_store.specs.declared.appended.Appended.{Appended}
-use Rattle.segment_io.specs.declared.fault.StoreFault.{StoreFault}
+use Rattle.qic_base.specs.declared.store_fault.StoreFault.{StoreFault}
 use Rattle.cartridge_laws.proofs.MountOnce.{one_table}
 use Rattle.qic_base.specs.SourceCalls.{input_of}
 use Rattle.qic_base.specs.Source as sources
 use Rattle.qic_base.specs.Tape as tapes
-use Rattle.segment_io.specs.declared.fault.StoreFault.TheVariants as fault
+use Rattle.qic_base.specs.declared.store_fault.StoreFault.TheVariants as fault
 
 -- what is told of an end, by the store's view, is told of the answer that is that end
 pub ordered : {T S : Type 0} (t : tapes.Meaning T) (s : sources.Meaning S) (old new : Outside T S (Unit {0})) (view store : StoreView)

@@ -11,8 +11,8 @@ use Rattle.volume_output.specs.Part.{PartEnds}
 use Rattle.volume_output.specs.declared.part.PartRead.{PartRead}
 use Rattle.volume_store.specs.Mounting.{StoreView}
 use Rattle.volume_store.specs.Restoring.{ReadsPart}
-use Rattle.segment_io.specs.declared.fault.StoreFault.{StoreFault}
-use Rattle.segment_io.specs.declared.fault.StoreFault.TheVariants as fault
+use Rattle.qic_base.specs.declared.store_fault.StoreFault.{StoreFault}
+use Rattle.qic_base.specs.declared.store_fault.StoreFault.TheVariants as fault
 
 module _ {T : Type 0} (t : Meaning T) (old new : T) (part : ℕ) (sectors : List (List ℕ)) where
   -- of a volume's pieces

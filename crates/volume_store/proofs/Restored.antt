@@ -22,12 +22,12 @@ use Rattle.volume_output.specs.Output.{GaveVolume, VolumeCut, OutputEnds}
 use Rattle.command_laws.specs.OutputText.{AreOf, printed}
 use Rattle.volume_store.specs.Mounting.{StoreView, StoreFits, KeepsStore}
 use Rattle.volume_store.specs.Restoring.{RestoreEnds}
-use Rattle.segment_io.specs.declared.fault.StoreFault.{StoreFault}
+use Rattle.qic_base.specs.declared.store_fault.StoreFault.{StoreFault}
 use Rattle.volume_store.proofs.Storing.{one_length, still_primary, still_referenced}
 use Rattle.command_laws.proofs.OutputActsOfPieces.{no_step}
 use Rattle.command_laws.proofs.MountedFronts.{no_first}
 use Rattle.qic_base.specs.Sink as sinks
-use Rattle.segment_io.specs.declared.fault.StoreFault.TheVariants as fault
+use Rattle.qic_base.specs.declared.store_fault.StoreFault.TheVariants as fault
 
 -- ---- the volume
 

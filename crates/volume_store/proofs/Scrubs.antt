@@ -33,7 +33,7 @@ use Rattle.command_spec.specs.declared.depth.Depth.{Depth}
 use Rattle.command_laws.proofs.ScrubForms.{AsSeen, as_seen, IsLeft, stopped_left}
 use Rattle.command_laws.proofs.ScrubOneWrong.{form_always}
 use Rattle.command_laws.proofs.ScrubStanding.{written_kept, looks_in_front}
-use Rattle.segment_io.specs.declared.fault.StoreFault.{StoreFault}
+use Rattle.qic_base.specs.declared.store_fault.StoreFault.{StoreFault}
 use Rattle.segment_mending.specs.declared.report.ScrubReport.{ScrubReport}
 use Rattle.segment_mending.specs.Mending.{HasScrubbed, ScrubCut, ScrubEnds, reported}
 use Rattle.command_laws.proofs.ScrubFormsTable.{seen_table, left_table}
@@ -42,7 +42,7 @@ use Rattle.volume_store.proofs.Fitting.{Listed}
 use Rattle.volume_store.specs.Mounting.{StoreView}
 use Rattle.volume_store.specs.Scrubbing.{MendEnds}
 use Rattle.qic_base.specs.Sink as sinks
-use Rattle.segment_io.specs.declared.fault.StoreFault.TheVariants as fault
+use Rattle.qic_base.specs.declared.store_fault.StoreFault.TheVariants as fault
 
 -- ---- a cartridge that is being mended
 

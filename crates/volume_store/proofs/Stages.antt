@@ -19,7 +19,7 @@ use Rattle.host_driver.specs.Fits.{deck_of}
 use Rattle.host_driver.proofs.Keeping.{keeps_both}
 use Rattle.volume_input.specs.declared.written.Written.{Written}
 use Rattle.volume_store.specs.declared.appended.Appended.{Appended}
-use Rattle.segment_io.specs.declared.fault.StoreFault.{StoreFault}
+use Rattle.qic_base.specs.declared.store_fault.StoreFault.{StoreFault}
 use Rattle.cartridge_front.specs.Again.{IsSettledAgain, IsAdded, IsOfReading, SettlesAgain, AddsEntry}
 use Rattle.volume_store.specs.Appending.{InputIs, InputWritten, HasAppended, AppendEnds}
 use Rattle.command_spec.specs.Append.{input_writes}
@@ -32,7 +32,7 @@ use Rattle.volume_store.proofs.Fitting.{same_told, settled_later, settling_refus
 use Rattle.volume_store.proofs.Scrubs.{told_there}
 use Rattle.qic_base.specs.Source as sources
 use Rattle.qic_base.specs.Tape as tapes
-use Rattle.segment_io.specs.declared.fault.StoreFault.TheVariants as fault
+use Rattle.qic_base.specs.declared.store_fault.StoreFault.TheVariants as fault
 use Rattle.volume_store.proofs.Ending as ending
 
 -- a store that fits a unit, of whose told cartridge is known that it may be written

@@ -27,11 +27,11 @@ use Rattle.volume_input.proofs.Inputs.{dropped, none_left, untold_content, whole
 use Rattle.volume_input.specs.Input.{HasWritten, EndedShort, InputCut, InputEnds}
 use Rattle.volume_input.specs.declared.written.Written.{Written}
 use Rattle.volume_store.specs.Appending.{AskedFor, InputWent, InputWritten, InputBroke, InputIs, TakesNone, most_asked}
-use Rattle.segment_io.specs.declared.fault.StoreFault.{StoreFault}
+use Rattle.qic_base.specs.declared.store_fault.StoreFault.{StoreFault}
 use Rattle.volume_input.proofs.Filled.{chosen, refused}
 use Rattle.qic_base.specs.Source as sources
 use Rattle.qic_base.specs.Tape as tapes
-use Rattle.segment_io.specs.declared.fault.StoreFault.TheVariants as fault
+use Rattle.qic_base.specs.declared.store_fault.StoreFault.TheVariants as fault
 
 -- ---- choices
 

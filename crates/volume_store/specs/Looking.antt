@@ -7,8 +7,8 @@ use Rattle.cartridge_spec.specs.Table.{Entry}
 use Rattle.qic_base.specs.Cartridge.{Cartridge}
 use Rattle.qic_base.specs.Tape.{Meaning, Done, Broke}
 use Rattle.volume_store.specs.Opening.{IsAbsent, IsTurnedDown}
-use Rattle.segment_io.specs.declared.fault.StoreFault.{StoreFault}
-use Rattle.segment_io.specs.declared.fault.StoreFault.TheVariants.{Tape}
+use Rattle.qic_base.specs.declared.store_fault.StoreFault.{StoreFault}
+use Rattle.qic_base.specs.declared.store_fault.StoreFault.TheVariants.{Tape}
 
 -- the cartridge is mounted with these words and these entries
 abbrev pub HasVolumes : Cartridge → (words : List ℕ) → List Entry → Type 0

@@ -16,8 +16,8 @@ use Rattle.qic_base.specs.Step.{Step}
 use Rattle.qic_base.specs.Tape.{Meaning, Done, Broke}
 use Rattle.qic_base.specs.TapeCalls.{Tells}
 use Rattle.cartridge_front.specs.Learning.{MountRefuses}
-use Rattle.segment_io.specs.declared.fault.StoreFault.{StoreFault}
-use Rattle.segment_io.specs.declared.fault.StoreFault.TheVariants.{Tape}
+use Rattle.qic_base.specs.declared.store_fault.StoreFault.{StoreFault}
+use Rattle.qic_base.specs.declared.store_fault.StoreFault.TheVariants.{Tape}
 use Rattle.cartridge_spec.specs.Mounting as mounting
 
 -- ---- a store

@@ -11,8 +11,8 @@ use Rattle.qic_base.specs.declared.tape.TapeFailed.{TapeFailed}
 use Rattle.cartridge_front.specs.Finding.{is_of_mounting, NamesCause}
 use Rattle.cartridge_front.specs.Learning.{MountRefuses}
 use Rattle.volume_store.specs.Mounting.{StoreView, StoreFits, SettlingBreaks, IsOpened}
-use Rattle.segment_io.specs.declared.fault.StoreFault.{StoreFault}
-use Rattle.segment_io.specs.declared.fault.StoreFault.TheVariants.{Tape}
+use Rattle.qic_base.specs.declared.store_fault.StoreFault.{StoreFault}
+use Rattle.qic_base.specs.declared.store_fault.StoreFault.TheVariants.{Tape}
 
 -- ---- the start
 

@@ -5,10 +5,10 @@ use Rattle.qic_base.specs.Acts.{Outside, TapeFails, SinkFails}
 use Rattle.segment_mending.specs.Mending.{HasScrubbed, ScrubCut}
 use Rattle.segment_mending.specs.declared.report.ScrubReport.{ScrubReport}
 use Rattle.volume_store.specs.Mounting.{StoreView}
-use Rattle.segment_io.specs.declared.fault.StoreFault.{StoreFault}
+use Rattle.qic_base.specs.declared.store_fault.StoreFault.{StoreFault}
 use Rattle.qic_base.specs.Sink as sinks
 use Rattle.qic_base.specs.Tape as tapes
-use Rattle.segment_io.specs.declared.fault.StoreFault.TheVariants as fault
+use Rattle.qic_base.specs.declared.store_fault.StoreFault.TheVariants as fault
 
 abbrev pub MendEnds : {T K : Type 0} (t : tapes.Meaning T) (k : sinks.Meaning K) (depth : Depth) (store : StoreView)
     (old new : Outside T (Unit {0}) K) → Result ScrubReport StoreFault → Type 0

@@ -1,7 +1,7 @@
 //! What an append answers.
 
 /// A volume that was appended.
-#[derive(Clone, Copy, Debug, PartialEq, Eq)]
+#[derive(Clone, Copy)]
 pub struct Appended {
     /// Its number, counted from 1.
     pub number: u32,

@@ -17,7 +17,6 @@ pub use listing::write_list;
 pub use looking::find_room;
 pub use opening::{open, start};
 pub use room::Room;
-pub use segment_io::StoreFault;
 pub use segment_mending::ScrubReport;
 pub use store::Store;
 pub use volume_output::Form;

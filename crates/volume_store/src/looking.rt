@@ -7,8 +7,7 @@ use crate::opening::start;
 use crate::room::Room;
 use cartridge_front::learn;
 use drive_states::Unit;
-use qic_base::Tape;
-use segment_io::StoreFault;
+use qic_base::{StoreFault, Tape};
 
 /// Puts the cartridge in and reads its header, its map and its volumes, with the refusals of a mounting. The answer is how
 /// many bytes an append may have now, and `None` where the drive holds no cartridge. The tape is only read: its volume

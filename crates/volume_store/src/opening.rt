@@ -6,8 +6,7 @@ use crate::room::Room;
 use crate::store::Store;
 use drive_states::Unit;
 use host_driver::Host;
-use qic_base::{Tape, TapeFailed};
-use segment_io::StoreFault;
+use qic_base::{StoreFault, Tape, TapeFailed};
 
 /// Puts the cartridge in and starts a host on it; `None` where the drive holds no cartridge.
 pub fn start<T: Tape>(unit: &mut Unit<T>) -> Result<Option<Host>, TapeFailed>

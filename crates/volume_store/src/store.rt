@@ -1,6 +1,6 @@
 //! A mounted cartridge.
 
-ghost use Rattle.std.specs.Prelude.{◌≡◌, ◌≢◌, ◌↔◌, ◌+◌, ◌-◌, ◌*◌, ◌^◌, ◌<◌, ◌≤◌, true, Err, IfOk, IfSome, slice_get, length};
+ghost use Rattle.std.specs.Prelude.{◌≡◌, ◌≢◌, ◌↔◌, ◌+◌, ◌-◌, ◌*◌, ◌^◌, ◌<◌, ◌≤◌, true, Err, IfOk, IfSome, OnOk, slice_get, length};
 ghost use Rattle.qic_base.specs.Alone.{around, reading};
 ghost use Rattle.drive_spec.specs.Terms.{is_protected};
 ghost use Rattle.drive_spec.specs.Deck.{segments_per_track};
@@ -27,8 +27,8 @@ use command_spec::Depth;
 use drive_states::{HandFault, Unit};
 use header_segments::Header;
 use host_driver::Host;
-use qic_base::{Name, Sector, Sink, Source, Tape};
-use segment_io::{StoreFault, Workspace};
+use qic_base::{Name, Sector, Sink, Source, StoreFault, Tape, TapeFailed};
+use segment_io::Workspace;
 use segment_mending::{ScrubReport, scrub_segments};
 use std::marker::Model;
 use volume_output::{Extent, Form, give_volume, read_part};
@@ -348,16 +348,15 @@ impl Store {
         unit: &mut Unit<T>,
         segment: u32,
         sector: u32,
-    ) -> Result<(), HandFault>
+    ) -> Result<Result<(), HandFault>, TapeFailed>
         requires fits { StoreFits T.means self.old unit.old }
         ensures misplaced { ¬ (IsPlace (segments_per_track unit.old.drive.deck) segment sector) →
-            (result ≡ Err HandFault.BadPlace) × (unit.new ≡ unit.old) }
+            (result ≡ Ok (Err HandFault.BadPlace)) × (unit.new ≡ unit.old) }
         ensures placed { IsPlace (segments_per_track unit.old.drive.deck) segment sector →
             Wears T.means unit.old unit.new segment sector result }
         ensures drive { unit.new.drive ≡ unit.old.drive }
         ensures store { self.new ≡ self.old }
-        ensures fits { IsPlace (segments_per_track unit.old.drive.deck) segment sector →
-            result ≢ Err HandFault.Tape → StoreFits T.means self.new unit.new }
+        ensures fits { OnOk result (StoreFits T.means self.new unit.new) }
         ensures size { T.means.size unit.new.tape ≡ T.means.size unit.old.tape }
     {
         self.host.wear(unit, segment, sector)

@@ -15,7 +15,7 @@ use std::marker::Model;
 
 /// The volumes on a cartridge, at most 232, in the order of their slots. Contracts see the list
 /// of their entries.
-#[derive(Debug, Drop)]
+#[derive(Drop)]
 pub struct Table {
     entries: Vec<Entry>,
 }

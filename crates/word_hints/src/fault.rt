@@ -12,7 +12,7 @@ use tape_script::{read_date, read_number};
 const LONGEST_NAME: usize = 44;
 
 /// What is wrong with a word.
-#[derive(Clone, Copy, Debug, PartialEq, Eq)]
+#[derive(Clone, Copy)]
 pub enum WordFault {
     /// It has a byte that is no digit, or none at all.
     NoNumber,

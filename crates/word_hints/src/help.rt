@@ -7,7 +7,7 @@ ghost use Rattle.word_hints.specs.Asked.{IsAlone, IsHelpWord, IsVersionWord};
 use qic_base::{Sink, SinkFailed, write_text};
 
 /// What a single word in the place of an image asks for.
-#[derive(Clone, Copy, Debug, PartialEq, Eq)]
+#[derive(Clone, Copy)]
 pub enum Asks {
     Help,
     Version,

@@ -16,7 +16,7 @@ use tape_script::TextLine;
 const LONGEST_SHOWN: usize = 60;
 
 /// What is wrong with words that are those of no command.
-#[derive(Clone, Copy, Debug, PartialEq, Eq)]
+#[derive(Clone, Copy)]
 pub enum Hint<'a> {
     /// There is no word of a command.
     NoWord,

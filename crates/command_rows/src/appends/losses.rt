@@ -36,7 +36,7 @@ fn survives(
     volumes: &[u8],
 ) -> bool {
     let mut unit = cut_ninth(rt, alloc, call, outcome);
-    assert_eq!(rt; unit.wear(TABLE, lost), Ok(()), "sector {lost}");
+    assert_eq!(rt; unit.wear(TABLE, lost), Ok(Ok(())), "sector {lost}");
     let listed = lists(rt, alloc, &mut unit, volumes);
     put_away(unit);
     listed

@@ -43,7 +43,7 @@ fn a_sector_more_is_lost_behind_a_failing_sink(rt: HostRuntime) {
             (Status::SinkFault, true),
             "sector {lost}"
         );
-        assert_eq!(rt; unit.wear(2, lost), Ok(()), "sector {lost}");
+        assert_eq!(rt; unit.wear(2, lost), Ok(Ok(())), "sector {lost}");
         prints(&rt, alloc, &mut unit, &["list"], LIST);
         put_away(unit);
     }

@@ -19,10 +19,10 @@ returns-in_err-write_at-clause-ran g c =
     let p = err_from_is_err_and c.from_residual.result c.from_residual.ensures.1 in
     Runs-err g.D.Disk.means c.args.disk.now _
     (cells_by c.args.segments_per_track c.args.first
-    (cell_with c.args.segment.now.marks.gates c.args.segment.now.marks.formed c.args.segment.now.marks.defects c.args.segment.now.block)
+    (cell_with c.args.marks.now.gates c.args.marks.now.formed c.args.marks.now.defects c.args.block.now)
     32) c.from_residual.result p.0 p.1
     (cells-halted g.D.Disk.means _ _ _ c.args.segments_per_track c.args.first
-    (cell_with c.args.segment.now.marks.gates c.args.segment.now.marks.formed c.args.segment.now.marks.defects c.args.segment.now.block)
+    (cell_with c.args.marks.now.gates c.args.marks.now.formed c.args.marks.now.defects c.args.block.now)
     c.loop-i.i _ _ c.loop-i.invariant.ran
     (c.cell_place-place.ensures ∙ ap (λ b. cell_place b GateByte (c.args.first + c.loop-i.i)) c.image_len.ensures) c.cell_of.ensures
     (omega arith) c.in_err-write_at.ensures.did)
@@ -30,7 +30,7 @@ returns-in_err-write_at-clause-ran g c =
 pub loop-i-preserved : goal.loop-i-preserved
 loop-i-preserved g c = record {
   ran = cells-more g.D.Disk.means _ _ _ c.args.segments_per_track c.args.first
-      (cell_with c.args.segment.now.marks.gates c.args.segment.now.marks.formed c.args.segment.now.marks.defects c.args.segment.now.block)
+      (cell_with c.args.marks.now.gates c.args.marks.now.formed c.args.marks.now.defects c.args.block.now)
       c.loop-i.i _ _ c.loop-i.invariant.ran
       (c.cell_place-place.ensures ∙ ap (λ b. cell_place b GateByte (c.args.first + c.loop-i.i)) c.image_len.ensures) c.cell_of.ensures
       c.in_ok-write_at.ensures.did;
@@ -39,5 +39,5 @@ loop-i-preserved g c = record {
 
 pub returns-clause-ran : goal.returns-clause-ran
 returns-clause-ran g c = cells-end g.D.Disk.means _ _ c.args.segments_per_track c.args.first
-    (cell_with c.args.segment.now.marks.gates c.args.segment.now.marks.formed c.args.segment.now.marks.defects c.args.segment.now.block)
+    (cell_with c.args.marks.now.gates c.args.marks.now.formed c.args.marks.now.defects c.args.block.now)
     c.loop-i.i 32 (omega arith) c.loop-i.invariant.ran

@@ -7,6 +7,6 @@ abbrev pub invariant-loop-i : goal.invariant-loop-i
 invariant-loop-i g l = record {
   ran : Ran g.D.Disk.means l.fn.disk l.disk
       (cells_by l.segments_per_track l.first
-      (cell_with l.segment.marks.gates l.segment.marks.formed l.segment.marks.defects l.segment.block) l.i);
+      (cell_with l.marks.gates l.marks.formed l.marks.defects l.block) l.i);
   seen : g.D.Disk.means.seen_len l.disk ≡ g.D.Disk.means.seen_len l.fn.disk;
 }

@@ -10,11 +10,11 @@ returns-in-Some-clause-states g c = c.in-Some.ensures.states c.args.wanted
 
 pub returns-in-None-clause-looked : goal.returns-in-None-clause-looked
 returns-in-None-clause-looked g c =
-    Looked-after g.D.Disk.means _ _ _ c.read_each_state.result
-    c.read_all_states.ensures.looks c.read_each_state.ensures.looked
+    Looked-after g.D.Disk.means _ _ _ c.read_each_state-in-None.result
+    c.read_all_states.ensures.looks c.read_each_state-in-None.ensures.looked
 
 pub returns-in-None-clause-states : goal.returns-in-None-clause-states
 returns-in-None-clause-states g c =
-    ok-behind c.read_each_state.result (g.D.Disk.means.told c.args.disk.now) _
+    ok-behind c.read_each_state-in-None.result (g.D.Disk.means.told c.args.disk.now) _
     (λ states bytes. end_of c.args.layout ≤ length bytes → AreStatesOf c.args.layout c.args.segment c.args.wanted bytes states)
-    c.read_all_states.ensures.looks.told c.read_each_state.ensures.states
+    c.read_all_states.ensures.looks.told c.read_each_state-in-None.ensures.states

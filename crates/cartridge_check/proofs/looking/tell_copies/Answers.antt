@@ -4,30 +4,26 @@ use Rattle.command_spec.specs.Scrub.{whole_segment}
 use Rattle.drive_states.specs.Reach.{reads_in}
 use Rattle.host_driver.proofs.Keeping.{cartridge_kept, mode_kept}
 use Rattle.qic_base.specs.Alone.{around}
-use Rattle.segment_io.proofs.Going.{front_segment}
 use Rattle.command_laws.proofs.Passing.{passed}
 use Rattle.cartridge_check.specs.declared.fault.CheckFault.{CheckFault}
+use Rattle.cartridge_check.proofs.Front.{reads_front}
 use Rattle.cartridge_check.proofs.Joining.{tells_longer, tells_then}
 use Rattle.cartridge_check.proofs.Parts.{few_after, few_more, zip_length}
 use Rattle.cartridge_check.proofs.looking.tell_copies.Goals as goal
 
-pub tell_segment-requires-clause-segment : goal.tell_segment-requires-clause-segment
-tell_segment-requires-clause-segment g c = front_segment 0 c.requires.ready.fits c.requires.referenced (omega arith)
+pub tell_segment-requires-clause-can : goal.tell_segment-requires-clause-can
+tell_segment-requires-clause-can g c = reads_front 0 c.requires.ready c.requires.referenced c.requires.mode (omega arith)
 
 pub tell_segment-requires-clause-few : goal.tell_segment-requires-clause-few
 tell_segment-requires-clause-few g c = few_more 0 67108864 c.args.tally.now (omega arith) c.requires.few
 
-pub tell_segment-requires-2-clause-segment : goal.tell_segment-requires-2-clause-segment
-tell_segment-requires-2-clause-segment g c =
+pub tell_segment-requires-2-clause-can : goal.tell_segment-requires-2-clause-can
+tell_segment-requires-2-clause-can g c =
     let keeps = c.in_ok-tell_segment.ensures.keeps in
-    front_segment 1 keeps.ready.fits
+    reads_front 1 keeps.ready
     (cartridge_kept (λ info. info.referenced) true c.args.unit.now.drive.deck c.tell_segment.new.unit.drive.deck keeps.same
-    c.requires.referenced) (omega arith)
-
-pub tell_segment-requires-2-clause-mode : goal.tell_segment-requires-2-clause-mode
-tell_segment-requires-2-clause-mode g c =
-    mode_kept reads_in true c.args.unit.now.drive.deck c.tell_segment.new.unit.drive.deck c.in_ok-tell_segment.ensures.keeps.same
-    c.requires.mode
+    c.requires.referenced)
+    (mode_kept reads_in true c.args.unit.now.drive.deck c.tell_segment.new.unit.drive.deck keeps.same c.requires.mode) (omega arith)
 
 pub tell_segment-requires-2-clause-few : goal.tell_segment-requires-2-clause-few
 tell_segment-requires-2-clause-few g c =

@@ -5,18 +5,18 @@ use Rattle.command_spec.specs.declared.verdict.Verdict.TheVariants.{Gone}
 use Rattle.qic_base.proofs.Steps.{Done-Does, tells_two}
 use Rattle.qic_base.specs.CartridgeTerms.{IsCartridge}
 use Rattle.qic_base.specs.TapeCalls.{Tells}
-use Rattle.segment_io.proofs.Going.{front_segment}
 use Rattle.segment_mending.specs.Searching.{SearchFinds}
 use Rattle.segment_mending.specs.declared.locating.Unread.{Unread}
 use Rattle.segment_mending.specs.declared.locating.Unread.TheVariants.{Lost, Mismatch}
 use Rattle.segment_mending.specs.declared.searching.Searched.{Searched}
 use Rattle.segment_mending.specs.declared.searching.Searched.TheVariants.{Reads, Wrong, Fails}
+use Rattle.cartridge_check.proofs.Front.{reads_front}
 use Rattle.cartridge_check.proofs.Table.{lost_table_told, read_table_told, told_later, undecided_table_told, whole_told, wrong_table_told}
 use Rattle.cartridge_check.specs.Verdicts.{IsJudged, IsUndecided}
 use Rattle.cartridge_check.proofs.verdicts.look_at_table.Goals as goal
 
-pub search_segment-requires-clause-segment : goal.search_segment-requires-clause-segment
-search_segment-requires-clause-segment g c = front_segment 2 c.requires.ready.fits c.requires.referenced (omega arith)
+pub search_segment-requires-clause-can : goal.search_segment-requires-clause-can
+search_segment-requires-clause-can g c = reads_front 2 c.requires.ready c.requires.referenced c.requires.mode (omega arith)
 
 pub returns-in-Reads-clause-told : goal.returns-in-Reads-clause-told
 returns-in-Reads-clause-told g c =

@@ -5,13 +5,13 @@ use Rattle.cartridge_spec.specs.TableSegment.{table_cells}
 use Rattle.command_spec.specs.Check.{is_last_used, is_named}
 use Rattle.command_spec.specs.Scrub.{whole_segment}
 use Rattle.qic_base.proofs.Steps.{Tells-map}
-use Rattle.segment_io.proofs.Going.{front_segment}
 use Rattle.segment_io.specs.Gathered.{Gathered}
+use Rattle.cartridge_check.proofs.Front.{reads_front}
 use Rattle.cartridge_check.proofs.Table.{named_by}
 use Rattle.cartridge_check.proofs.verdicts.names_sector.Goals as goal
 
-pub collect-requires-clause-segment : goal.collect-requires-clause-segment
-collect-requires-clause-segment g c = front_segment 2 c.requires.ready.fits c.requires.referenced (omega arith)
+pub collect-requires : goal.collect-requires
+collect-requires g c = reads_front 2 c.requires.ready c.requires.referenced c.requires.mode (omega arith)
 
 pub returns-then-from-lt-DATA_SECTORS-clause-named : goal.returns-then-from-lt-DATA_SECTORS-clause-named
 returns-then-from-lt-DATA_SECTORS-clause-named g c =

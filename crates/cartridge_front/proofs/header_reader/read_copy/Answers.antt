@@ -1,15 +1,21 @@
-use Rattle.std.proofs.Common.{ℕ, List, take, refl, ◌∙◌, arith}
+use Rattle.std.proofs.Common.{ℕ, List, Result, take, refl, ◌∙◌, arith, subst}
 use Rattle.qic_base.proofs.Steps.{Tells-map}
 use Rattle.cartridge_spec.specs.HeaderCopies.{copy_cells}
 use Rattle.host_driver.specs.Fits.{segments_of}
 use Rattle.segment_io.proofs.Going.{front_segment}
-use Rattle.segment_io.specs.Reading.{HasSolved}
+use Rattle.segment_io.specs.Reading.{HasSolved, Solves}
+use Rattle.segment_io.specs.declared.fault.SegFault.{SegFault}
+use Rattle.qic_base.specs.TapeCalls.{Tells}
 use Rattle.cartridge_front.specs.Finding.{FindsCopy, TakesHeader}
 use Rattle.cartridge_front.proofs.Copies.{finds_copy, taken_map, takes_at}
 use Rattle.cartridge_front.proofs.header_reader.read_copy.Goals as goal
 
-pub read_segment-requires-clause-segment : goal.read_segment-requires-clause-segment
-read_segment-requires-clause-segment g c = front_segment c.args.copy c.requires.ready.fits c.requires.referenced (omega arith)
+pub read_segment-requires : goal.read_segment-requires
+read_segment-requires g c = record {
+  ready = c.requires.ready;
+  segment = front_segment c.args.copy c.requires.ready.fits c.requires.referenced (omega arith);
+  mode = c.requires.mode;
+}
 
 pub returns-in-Ok-clause-found : goal.returns-in-Ok-clause-found
 returns-in-Ok-clause-found g c = λ sound.
@@ -22,8 +28,9 @@ returns-in-Ok-clause-found g c = λ sound.
     c.data_sectors.ensures.value (c.segments_per_track-segments_per_track.ensures.value ∙ c.geometry.ensures) c.decode_copy.ensures.taken in
     Tells-map g.T.Tape.means c.args.unit.now.tape (λ c'. HasSolved (copy_cells c' copy) sectors)
     (λ c'. FindsCopy c' copy n words c.decode_copy.result)
-    (λ c' solved. finds_copy c' copy n words sectors c.decode_copy.result c.in-Ok.ensures.room solved taken)
-    (c.in-Ok.ensures.solves (λ same. cc))
+    (λ c' solved. finds_copy c' copy n words sectors c.decode_copy.result c.in_ok-read_segment.ensures.room solved taken)
+    (subst (λ (read : Result ℕ SegFault). Tells g.T.Tape.means c.args.unit.now.tape (λ c'. Solves copy (copy_cells c' copy) sectors read))
+    c.in-Ok.is c.in_ok-read_segment.ensures.solves)
 
 pub returns-in-Ok-clause-map : goal.returns-in-Ok-clause-map
 returns-in-Ok-clause-map g c =

@@ -3,14 +3,14 @@ use Rattle.std.specs.Option.{option_map_or}
 use Rattle.qic_base.specs.declared.tape.TapeInfo.{TapeInfo}
 use Rattle.host_driver.specs.declared.host.Host.{Host}
 use Rattle.host_driver.proofs.Keeping.{keeps_both}
-use Rattle.segment_io.specs.declared.fault.StoreFault.TheVariants.{Tape}
+use Rattle.qic_base.specs.declared.store_fault.StoreFault.TheVariants.{Tape}
 use Rattle.qic_base.specs.TapeCalls.{Tells}
 use Rattle.qic_base.proofs.Steps.{Tells-read, Done-after_reads, tells_two}
 use Rattle.cartridge_spec.specs.HeaderCopies.{CopyDoesNotRead}
 use Rattle.drive_spec.specs.Terms.{is_referenced}
 use Rattle.host_driver.specs.Fits.{segments_of, deck_of}
 use Rattle.header_segments.specs.declared.header.Header.{Header}
-use Rattle.segment_io.specs.declared.fault.StoreFault.{StoreFault}
+use Rattle.qic_base.specs.declared.store_fault.StoreFault.{StoreFault}
 use Rattle.cartridge_front.specs.Finding.{FindsCopy, FindsHeader}
 use Rattle.cartridge_front.proofs.Copies.{leaves_after, leaves_on, IsLearnt, told_learnt, first_forces, second_forces, format_found}
 use Rattle.cartridge_front.proofs.Copies.{fault_found}

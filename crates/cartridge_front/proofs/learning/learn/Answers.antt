@@ -7,8 +7,8 @@ use Rattle.header_segments.specs.declared.header.Header.{Header}
 use Rattle.host_driver.specs.declared.host.Host.{Host}
 use Rattle.host_driver.specs.Fits.{AgreesWithTape, segments_of}
 use Rattle.host_driver.proofs.Keeping.{agrees_tape}
-use Rattle.segment_io.specs.declared.fault.StoreFault.{StoreFault}
-use Rattle.segment_io.specs.declared.fault.StoreFault.TheVariants.{Tape}
+use Rattle.qic_base.specs.declared.store_fault.StoreFault.{StoreFault}
+use Rattle.qic_base.specs.declared.store_fault.StoreFault.TheVariants.{Tape}
 use Rattle.cartridge_front.specs.declared.learning.Learnt.{Learnt}
 use Rattle.cartridge_front.specs.Finding.{HasFormat, FindsVolumes}
 use Rattle.cartridge_front.specs.Learning.{Learns}

@@ -5,8 +5,8 @@ use Rattle.qic_base.proofs.Steps.{Done-after_reads, Tells-map}
 use Rattle.cartridge_spec.specs.TableSegment.{TableIs}
 use Rattle.cartridge_spec.specs.Table.{Entry, Shows, table_with}
 use Rattle.volume_table.specs.Entry.{entry_of}
-use Rattle.segment_io.specs.declared.fault.StoreFault.{StoreFault}
-use Rattle.segment_io.specs.declared.fault.StoreFault.TheVariants.{Tape}
+use Rattle.qic_base.specs.declared.store_fault.StoreFault.{StoreFault}
+use Rattle.qic_base.specs.declared.store_fault.StoreFault.TheVariants.{Tape}
 use Rattle.cartridge_front.specs.Again.{HasTable}
 use Rattle.cartridge_front.proofs.Again.{adding_broke, adds_refused}
 use Rattle.command_laws.proofs.Passing.{passed}

@@ -1,16 +1,15 @@
-use Rattle.std.proofs.Common.{◌≢◌, ◌∙◌, ℕ, List, take, Err, sym, ap, subst}
+use Rattle.std.proofs.Common.{ℕ, List, take, Result, Err, sym, subst}
 use Rattle.cartridge_laws.specs.TableCells.{HasList}
 use Rattle.qic_base.proofs.Steps.{Tells-map}
 use Rattle.qic_base.specs.TapeCalls.{Tells}
 use Rattle.cartridge_spec.specs.TableSegment.{TableIs}
 use Rattle.cartridge_spec.specs.Table.{Entry, Shows}
 use Rattle.segment_io.specs.declared.fault.SegFault.{SegFault}
-use Rattle.segment_io.specs.declared.fault.StoreFault.{StoreFault}
+use Rattle.qic_base.specs.declared.store_fault.StoreFault.{StoreFault}
 use Rattle.cartridge_front.specs.declared.table_reader.Unread.{Unread}
 use Rattle.cartridge_front.specs.Again.{FindsList}
 use Rattle.cartridge_front.specs.Finding.{FindsTable, refusal_of}
 use Rattle.cartridge_front.proofs.Again.{list_missing, finds_fault}
-use Rattle.segment_io.specs.declared.fault.SegFault.TheVariants as seg
 use Rattle.cartridge_front.proofs.refreshing.read_list.Goals as goal
 
 pub returns-else-is_shown_by-clause-found : goal.returns-else-is_shown_by-clause-found
@@ -21,7 +20,9 @@ returns-else-is_shown_by-clause-found g c = λ sound.
     λ shown. let e = c.if-is_shown_by.ensures.1
     (subst (λ (area : List (List ℕ)). Shows area entries) (sym c.data_sectors.ensures.value) shown) in cc in
     Tells-map g.T.Tape.means c.args.unit.now.tape (λ c'. TableIs c' (take 29 sectors)) (λ c'. ¬ (HasList c' entries))
-    (λ c' table. list_missing c' (take 29 sectors) entries none table) (c.in-Ok.ensures.found (λ same. cc))
+    (λ c' table. list_missing c' (take 29 sectors) entries none table)
+    (subst (λ (read : Result Unread SegFault). Tells g.T.Tape.means c.args.unit.now.tape (λ c'. FindsTable c' sectors read)) c.in-Ok.is
+    c.in_ok-unread.ensures.found)
 
 pub returns-in-Err-clause-found : goal.returns-in-Err-clause-found
 returns-in-Err-clause-found g c = λ sound.
@@ -29,11 +30,12 @@ returns-in-Err-clause-found g c = λ sound.
     let sectors : List (List ℕ) = c.read_table.new.work in
     let entries : List Entry = c.args.table.now in
     let fault : SegFault = c.in-Err.fault in
-    let apart : fault ≢ seg.Tape = λ same. sound (ap Err (c.table_fault.ensures ∙ ap refusal_of same)) in
     subst (λ (f : StoreFault). Tells m c.args.unit.now.tape (λ c'. FindsList c' sectors entries (Err f))) (sym c.table_fault.ensures)
     (Tells-map m c.args.unit.now.tape (λ c'. FindsTable {A = Unread} c' sectors (Err fault))
     (λ c'. FindsList c' sectors entries (Err (refusal_of fault)))
-    (λ c' found. finds_fault c' sectors entries fault found) (c.in-Err.ensures.found (λ same. apart (cc))))
+    (λ c' found. finds_fault c' sectors entries fault found)
+    (subst (λ (read : Result Unread SegFault). Tells m c.args.unit.now.tape (λ c'. FindsTable c' sectors read)) c.in-Err.is
+    c.in_ok-unread.ensures.found))
 
 pub returns-else-is_shown_by-clause-shown : goal.returns-else-is_shown_by-clause-shown
 returns-else-is_shown_by-clause-shown g c = tt

@@ -3,8 +3,8 @@ use Rattle.qic_base.proofs.Steps.{Tells-map}
 use Rattle.cartridge_spec.specs.TableSegment.{TableIs}
 use Rattle.cartridge_front.specs.Again.{HasTable}
 use Rattle.drive_spec.specs.Terms.{is_protected}
-use Rattle.segment_io.specs.declared.fault.StoreFault.{StoreFault}
-use Rattle.segment_io.specs.declared.fault.StoreFault.TheVariants.{Tape}
+use Rattle.qic_base.specs.declared.store_fault.StoreFault.{StoreFault}
+use Rattle.qic_base.specs.declared.store_fault.StoreFault.TheVariants.{Tape}
 use Rattle.cartridge_front.specs.Settling.{mending_steps}
 use Rattle.cartridge_front.proofs.Again.{broke_reading, fault_unread, settled_by, settling_broke, settles_refused, told_mending}
 use Rattle.command_laws.proofs.Passing.{passed}

@@ -14,11 +14,15 @@ use Rattle.erasure_solve.specs.Lost.{lost_count}
 use Rattle.cartridge_front.proofs.TableSegment.{finds_read, finds_many, finds_solving, known_solving, read_known}
 use Rattle.cartridge_front.proofs.table_reader.read_table.Goals as goal
 
-pub collect-requires-clause-segment : goal.collect-requires-clause-segment
-collect-requires-clause-segment g c = front_segment 2 c.requires.ready.fits c.requires.referenced (omega arith)
+pub collect-requires : goal.collect-requires
+collect-requires g c = record {
+  ready = c.requires.ready;
+  segment = front_segment 2 c.requires.ready.fits c.requires.referenced (omega arith);
+  mode = c.requires.mode;
+}
 
 pub returns-in-AsRead-clause-found : goal.returns-in-AsRead-clause-found
-returns-in-AsRead-clause-found g c = λ sound.
+returns-in-AsRead-clause-found g c =
     let lost : ℕ = c.in_ok-lost.lost in
     let none : ¬ (LosesData lost) = (c.in-AsRead.ensures.as_read).0 refl in
     Tells-map g.T.Tape.means c.args.unit.now.tape (λ c'. Gathered (table_cells c') lost c.collect.new.work)
@@ -26,7 +30,7 @@ returns-in-AsRead-clause-found g c = λ sound.
     (λ c' gathered. finds_read c' lost c.collect.new.work c.in_ok-lost.ensures.room gathered none) c.in_ok-lost.ensures.gathered
 
 pub returns-in-TooMany-clause-found : goal.returns-in-TooMany-clause-found
-returns-in-TooMany-clause-found g c = λ sound.
+returns-in-TooMany-clause-found g c =
     let lost : ℕ = c.in_ok-lost.lost in
     let many = (c.in-TooMany.ensures.too_many c.in-TooMany.lost).0 refl in
     Tells-map g.T.Tape.means c.args.unit.now.tape (λ c'. Gathered (table_cells c') lost c.collect.new.work)
@@ -52,7 +56,7 @@ returns-in-AsRead-clause-known g c =
     c.in_ok-lost.ensures.gathered
 
 pub returns-in-Solve-clause-found : goal.returns-in-Solve-clause-found
-returns-in-Solve-clause-found g c = λ sound.
+returns-in-Solve-clause-found g c =
     let lost : ℕ = c.in_ok-lost.lost in
     Tells-map g.T.Tape.means c.args.unit.now.tape (λ c'. Gathered (table_cells c') lost c.collect.new.work)
     (λ c'. FindsTable c' c.solve_table.new.work c.solve_table.result)

@@ -19,7 +19,7 @@ returns-in-Ok-clause-solved c =
       there = get_first count sets index c.index-tried-index.result (omega (arith, c.loop-index-test.true))
           (omega (arith, c.requires.few, c.loop-index-test.true));
       before = λ i other lt at. subst (Unsolved other) c.loop-index.invariant.kept (c.loop-index.invariant.none i other lt at);
-      code = block_answer c.solve_collected.new.work c.in-Ok.ensures.room c.in-Ok.ensures.block;
+      code = block_answer c.solve_collected.new.work c.in-Ok.ensures.room c.in-Ok.ensures.solved.block;
       solved = subst (λ (old : List (List ℕ)). IsSolved set old c.solve_collected.new.work) c.loop-index.invariant.kept
           (solved_answer set c.loop-index.work c.solve_collected.new.work c.in-Ok.ensures.solves);
     }
@@ -30,7 +30,7 @@ loop-index-preserved c =
     let count : ℕ = c.args.tried.now.count in
     let index : ℕ = c.loop-index.index in
     let set : ℕ = get_or sets index c.index-tried-index.result in
-    let kept : c.solve_collected.new.work ≡ c.loop-index.work = c.in-Err.ensures.unchanged in
+    let kept : c.solve_collected.new.work ≡ c.loop-index.work = c.in-Err.ensures.solved.unchanged in
     record {
       kept = kept ∙ c.loop-index.invariant.kept;
       none = subst (NoneBelow (take count sets) (index + 1)) (sym kept)

@@ -11,8 +11,12 @@ use Rattle.cartridge_front.proofs.Adding.{named_places}
 use Rattle.cartridge_front.proofs.Mending.{no_sectors}
 use Rattle.cartridge_front.proofs.table_writer.write_places.Goals as goal
 
-pub write_sectors-requires-clause-segment : goal.write_sectors-requires-clause-segment
-write_sectors-requires-clause-segment g c = front_segment 2 c.requires.ready.fits c.requires.referenced (omega arith)
+pub write_sectors-requires-clause-can : goal.write_sectors-requires-clause-can
+write_sectors-requires-clause-can g c = record {
+  ready = c.requires.ready;
+  segment = front_segment 2 c.requires.ready.fits c.requires.referenced (omega arith);
+  writable = c.requires.writable;
+}
 
 pub write_sectors-requires-clause-within : goal.write_sectors-requires-clause-within
 write_sectors-requires-clause-within g c = subst (λ (n : ℕ). c.args.places < 2 ^ n) (sym count_of_whole) c.requires.within

@@ -1,4 +1,4 @@
-use Rattle.std.proofs.Common.{◌≡◌, ℕ, ◌^◌, ◌<◌, true, List, subst, sym, arith}
+use Rattle.std.proofs.Common.{◌≡◌, ℕ, ◌^◌, ◌<◌, List, subst, sym, arith}
 use Rattle.std.proofs.lemmas.Result.{err_from_is_err_and}
 use Rattle.qic_base.specs.Step.{Step}
 use Rattle.qic_base.specs.Tape.{Done, Broke}
@@ -6,20 +6,12 @@ use Rattle.qic_base.specs.TapeCalls.{Does}
 use Rattle.qic_base.proofs.Steps.{Broke-front, Done-Does}
 use Rattle.cartridge_spec.specs.Formatting.{copy_writes}
 use Rattle.cartridge_laws.specs.Writes.{named_writes}
-use Rattle.host_driver.proofs.Keeping.{cartridge_kept}
-use Rattle.segment_io.proofs.Going.{front_segment}
 use Rattle.formatter.proofs.Copies.{all_count, copy_is}
+use Rattle.formatter.proofs.Keeping.{can_write_again}
 use Rattle.formatter.proofs.header.write_copy.Goals as goal
 
-pub write_sectors-requires-clause-segment : goal.write_sectors-requires-clause-segment
-write_sectors-requires-clause-segment g c = front_segment c.args.copy c.requires.ready.ready.fits c.requires.ready.referenced (omega arith)
-
-pub write_sectors-requires-2-clause-segment : goal.write_sectors-requires-2-clause-segment
-write_sectors-requires-2-clause-segment g c =
-    let kept = c.write_sectors.ensures.keeps in
-    front_segment c.args.copy kept.ready.fits
-    (cartridge_kept (λ info. info.referenced) true c.args.unit.now.drive.deck c.write_sectors.new.unit.drive.deck kept.same
-    c.requires.ready.referenced) (omega arith)
+pub write_sectors-requires-2-clause-can : goal.write_sectors-requires-2-clause-can
+write_sectors-requires-2-clause-can g c = can_write_again c.args.copy 4294967295 c.requires.can c.write_sectors.ensures.keeps
 
 pub write_sectors-requires-clause-within : goal.write_sectors-requires-clause-within
 write_sectors-requires-clause-within g c =

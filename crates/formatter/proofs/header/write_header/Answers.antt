@@ -1,4 +1,4 @@
-use Rattle.std.proofs.Common.{◌≡◌, ℕ, ◌*◌, ◌++◌, List, length, take, drop, false, Option, OnOk, subst, sym, ap, ◌∙◌}
+use Rattle.std.proofs.Common.{◌≡◌, ℕ, ◌*◌, ◌++◌, List, length, take, drop, false, arith, Option, OnOk, subst, sym, ap, ◌∙◌}
 use Rattle.std.specs.Option.{option_map_or}
 use Rattle.std.proofs.lemmas.Result.{err_from_is_err_and}
 use Rattle.qic_base.specs.declared.tape.TapeInfo.{TapeInfo}
@@ -13,7 +13,7 @@ use Rattle.cartridge_spec.specs.Says.{with_parity}
 use Rattle.cartridge_laws.specs.HeaderTerms.{IsFreshArea}
 use Rattle.formatter.specs.Formats.{header_writes}
 use Rattle.formatter.proofs.Copies.{lent_room}
-use Rattle.formatter.proofs.Keeping.{is_entered, kept, entered, kept_both, go_kept}
+use Rattle.formatter.proofs.Keeping.{is_entered, kept, entered, kept_both, go_kept, can_write_copy}
 use Rattle.formatter.proofs.Places.{length_known}
 use Rattle.qic_base.proofs.Arrays.{lent}
 use Rattle.formatter.proofs.header.write_header.Goals as goal
@@ -70,36 +70,30 @@ spell-requires-clause-words g c =
 pub unwrap-requires : goal.unwrap-requires
 unwrap-requires g c = is_entered c.enter.result (λ refused. let no = (c.enter.ensures.protected.0 refused).0 in absurd (cc))
 
-pub write_copy-requires-clause-ready : goal.write_copy-requires-clause-ready
-write_copy-requires-clause-ready g c = go_kept c.requires.stands.go c.enter.ensures.ready c.enter.ensures.cartridge
-
-pub write_copy-requires-clause-writable : goal.write_copy-requires-clause-writable
-write_copy-requires-clause-writable g c =
-    record {
+pub write_copy-requires-clause-can : goal.write_copy-requires-clause-can
+write_copy-requires-clause-can g c =
+    can_write_copy 0 (go_kept c.requires.stands.go c.enter.ensures.ready c.enter.ensures.cartridge) (record {
       mode = ap is_primary
           (subst (λ (r : _). OnOk r (c.enter.new.unit.drive.deck.mode ≡ Primary)) c.unwrap.ensures c.enter.ensures.mode);
       writable = ap (λ (cartridge : Option TapeInfo). option_map_or (λ (info : TapeInfo). info.protected) cartridge false)
           c.enter.ensures.cartridge ∙ c.requires.writable;
-    }
+    }) (omega arith)
 
 pub write_copy-requires-clause-room : goal.write_copy-requires-clause-room
 write_copy-requires-clause-room g c =
     let size : length c.spell.new.sectors ≡ 32 = c.spell.auto.sectors ∙ c.sectors_mut.ensures.size in
     lent_room c.spell.new.sectors c.args.work.now size
 
-pub write_copy-requires-2-clause-ready : goal.write_copy-requires-2-clause-ready
-write_copy-requires-2-clause-ready g c =
-    go_kept c.requires.stands.go c.in_ok-write_copy.ensures.keeps.ready
-    (c.in_ok-write_copy.ensures.keeps.same.cartridge ∙ c.enter.ensures.cartridge)
-
-pub write_copy-requires-2-clause-writable : goal.write_copy-requires-2-clause-writable
-write_copy-requires-2-clause-writable g c =
-    may_write_kept c.enter.new.unit.drive.deck c.write_copy.new.unit.drive.deck c.in_ok-write_copy.ensures.keeps.same (record {
+pub write_copy-requires-2-clause-can : goal.write_copy-requires-2-clause-can
+write_copy-requires-2-clause-can g c =
+    let keeps = c.in_ok-write_copy.ensures.keeps in
+    can_write_copy 1 (go_kept c.requires.stands.go keeps.ready (keeps.same.cartridge ∙ c.enter.ensures.cartridge))
+    (may_write_kept c.enter.new.unit.drive.deck c.write_copy.new.unit.drive.deck keeps.same (record {
       mode = ap is_primary
           (subst (λ (r : _). OnOk r (c.enter.new.unit.drive.deck.mode ≡ Primary)) c.unwrap.ensures c.enter.ensures.mode);
       writable = ap (λ (cartridge : Option TapeInfo). option_map_or (λ (info : TapeInfo). info.protected) cartridge false)
           c.enter.ensures.cartridge ∙ c.requires.writable;
-    })
+    })) (omega arith)
 
 pub write_copy-requires-2-clause-room : goal.write_copy-requires-2-clause-room
 write_copy-requires-2-clause-room g c =

@@ -1,4 +1,4 @@
-use Rattle.std.proofs.Common.{◌≡◌, true, false, List, [], ◌∷◌, ◌++◌, Err, IfSome, refl, sym, ap, ◌∙◌, subst, inl, inr}
+use Rattle.std.proofs.Common.{◌≡◌, true, false, List, [], ◌∷◌, ◌++◌, Ok, Err, IfSome, refl, sym, ap, ◌∙◌, subst, inl, inr}
 use Rattle.qic_base.specs.Step.{Step as TapeStep, Spoil}
 use Rattle.qic_base.specs.Cartridge.{view_at}
 use Rattle.qic_base.specs.Tape as tapes
@@ -22,12 +22,13 @@ use Rattle.hand_commands.proofs.defect.spoil.Goals as goal
 is_blind : {segment sector : _} → IsBlind (Defect segment sector)
 is_blind = record { reads = refl }
 
-pub returns-in-Ok : goal.returns-in-Ok
-returns-in-Ok g c =
+pub returns-in-Ok-Ok : goal.returns-in-Ok-Ok
+returns-in-Ok-Ok g c =
+    let is : c.spoil.result ≡ Ok (Ok _) = c.in-Ok-Ok.is ∙ ap Ok c.in-Ok-Ok.field-0-is in
     let came = reached _ c.args.segment c.args.sector c.spoil.result
     (Spoils g.T.Tape.means c.insert.new.self c.spoil.new.self c.args.segment c.args.sector)
-    c.spoil.ensures.absent c.spoil.ensures.misplaced c.spoil.ensures.placed (λ is. let other = c.in-Ok.is in cc)
-    (λ is. let other = c.in-Ok.is in cc) in
+    c.spoil.ensures.absent c.spoil.ensures.misplaced c.spoil.ensures.placed (λ other. cc)
+    (λ other. cc) in
     let before = told_back g.T.Tape.means c.args.unit.now.tape c.insert.new.self.tape
     (IsInfoOf _) c.in_default.ensures.did c.in_default.ensures.inserted.known.told in
     rw c.printed.ensures (printed g.T.Tape.means g.K.Sink.means (Defect c.args.segment c.args.sector) is_blind c.args.unit.now.tape
@@ -38,14 +39,15 @@ returns-in-Ok g c =
     (carried_out (Spoil c.args.segment c.args.sector) (defect_line c.args.segment c.args.sector)))
     (told_both _ (IsInfoOf _) (λ h. IfSome h (λ k. spoil_answer (view_at k c.args.segment c.args.sector) ≡ true)) before
     (Tells-read (λ k. spoil_answer (view_at k c.args.segment c.args.sector) ≡ true) c.in_default.ensures.did
-    (rw c.in-Ok.is at came.fact).1))
+    (rw is at came.fact).1))
     (λ held is input. defect_placed c.args.segment c.args.sector came.info held (sym came.known ∙ is.0) came.place is.1))
-    (Done-after_reads c.in_default.ensures.did (rw c.in-Ok.is at came.fact).0)
-    (rw (c.bytes.ensures, c.place_text.ensures, c.from.ensures, c.from-in-Ok.ensures) at c.write_text.ensures))
+    (Done-after_reads c.in_default.ensures.did (rw is at came.fact).0)
+    (rw (c.bytes.ensures, c.place_text.ensures, c.from.ensures, c.from-in-Ok-Ok.ensures) at c.write_text.ensures))
 
-pub returns-in-Err-NoCartridge : goal.returns-in-Err-NoCartridge
-returns-in-Err-NoCartridge g c =
-    let is : c.spoil.result ≡ Err hand.NoCartridge = c.in-Err-NoCartridge.is ∙ ap Err c.in-Err-NoCartridge.field-0-is in
+pub returns-in-Ok-Err-NoCartridge : goal.returns-in-Ok-Err-NoCartridge
+returns-in-Ok-Err-NoCartridge g c =
+    let is : c.spoil.result ≡ Ok (Err hand.NoCartridge) =
+    c.in-Ok-Err-NoCartridge.is ∙ ap Ok (c.in-Ok-Err-NoCartridge.field-0-is ∙ ap Err c.in-Ok-Err-NoCartridge.field-0-0-is) in
     let none = unknown _ c.args.segment c.args.sector c.spoil.result
     (Spoils g.T.Tape.means c.insert.new.self c.spoil.new.self c.args.segment c.args.sector)
     c.spoil.ensures.misplaced c.spoil.ensures.placed is (λ never. never) in
@@ -58,9 +60,10 @@ returns-in-Err-NoCartridge g c =
     (λ held known. λ input. defect_absent c.args.segment c.args.sector held (sym none ∙ known)))
     (subst (λ (u : UnitView _). tapes.Done g.T.Tape.means c.args.unit.now.tape u.tape []) (sym same) c.in_default.ensures.did)
 
-pub returns-in-Err-BadPlace : goal.returns-in-Err-BadPlace
-returns-in-Err-BadPlace g c =
-    let is : c.spoil.result ≡ Err hand.BadPlace = c.in-Err-BadPlace.is ∙ ap Err c.in-Err-BadPlace.field-0-is in
+pub returns-in-Ok-Err-BadPlace : goal.returns-in-Ok-Err-BadPlace
+returns-in-Ok-Err-BadPlace g c =
+    let is : c.spoil.result ≡ Ok (Err hand.BadPlace) =
+    c.in-Ok-Err-BadPlace.is ∙ ap Ok (c.in-Ok-Err-BadPlace.field-0-is ∙ ap Err c.in-Ok-Err-BadPlace.field-0-0-is) in
     let out = no_place _ c.args.segment c.args.sector c.spoil.result
     (Spoils g.T.Tape.means c.insert.new.self c.spoil.new.self c.args.segment c.args.sector)
     c.spoil.ensures.absent c.spoil.ensures.placed is (λ never. never) in
@@ -74,9 +77,10 @@ returns-in-Err-BadPlace g c =
     (λ held known. λ input. defect_misplaced c.args.segment c.args.sector out.info held (sym out.known ∙ known) out.none))
     (subst (λ (u : UnitView _). tapes.Done g.T.Tape.means c.args.unit.now.tape u.tape []) (sym same) c.in_default.ensures.did)
 
-pub returns-in-Err-NotBlank : goal.returns-in-Err-NotBlank
-returns-in-Err-NotBlank g c =
-    let is : c.spoil.result ≡ Err hand.NotBlank = c.in-Err-NotBlank.is ∙ ap Err c.in-Err-NotBlank.field-0-is in
+pub returns-in-Ok-Err-NotBlank : goal.returns-in-Ok-Err-NotBlank
+returns-in-Ok-Err-NotBlank g c =
+    let is : c.spoil.result ≡ Ok (Err hand.NotBlank) =
+    c.in-Ok-Err-NotBlank.is ∙ ap Ok (c.in-Ok-Err-NotBlank.field-0-is ∙ ap Err c.in-Ok-Err-NotBlank.field-0-0-is) in
     let came = reached _ c.args.segment c.args.sector c.spoil.result
     (Spoils g.T.Tape.means c.insert.new.self c.spoil.new.self c.args.segment c.args.sector)
     c.spoil.ensures.absent c.spoil.ensures.misplaced c.spoil.ensures.placed (λ is. let other = is in cc) (λ is. let other = is in cc) in
@@ -93,9 +97,9 @@ returns-in-Err-NotBlank g c =
     (λ held is input. defect_formatted c.args.segment c.args.sector came.info held (sym came.known ∙ is.0) came.place is.1))
     (Done-after_reads c.in_default.ensures.did kept.0)
 
-pub returns-in-Err-Tape : goal.returns-in-Err-Tape
-returns-in-Err-Tape g c =
-    let is : c.spoil.result ≡ Err hand.Tape = c.in-Err-Tape.is ∙ ap Err c.in-Err-Tape.field-0-is in
+pub returns-in-Err-spoil : goal.returns-in-Err-spoil
+returns-in-Err-spoil g c =
+    let is : c.spoil.result ≡ Err _ = c.in-Err-spoil.is in
     let came = reached _ c.args.segment c.args.sector c.spoil.result
     (Spoils g.T.Tape.means c.insert.new.self c.spoil.new.self c.args.segment c.args.sector)
     c.spoil.ensures.absent c.spoil.ensures.misplaced c.spoil.ensures.placed (λ is. let other = is in cc) (λ is. let other = is in cc) in

@@ -1,4 +1,4 @@
-use Rattle.std.proofs.Common.{◌≡◌, List, [], ◌∷◌, ◌++◌, Err, refl, sym, ap, ◌∙◌, subst, inl, inr}
+use Rattle.std.proofs.Common.{◌≡◌, List, [], ◌∷◌, ◌++◌, Ok, Err, refl, sym, ap, ◌∙◌, subst, inl, inr}
 use Rattle.qic_base.specs.Step.{Step as TapeStep, Wear}
 use Rattle.qic_base.specs.Tape as tapes
 use Rattle.qic_base.proofs.Steps.{Done-after_reads, Broke-after_reads}
@@ -20,12 +20,13 @@ use Rattle.hand_commands.proofs.lose.lose.Goals as goal
 is_blind : {segment sector : _} → IsBlind (Lose segment sector)
 is_blind = record { reads = refl }
 
-pub returns-in-Ok : goal.returns-in-Ok
-returns-in-Ok g c =
+pub returns-in-Ok-Ok : goal.returns-in-Ok-Ok
+returns-in-Ok-Ok g c =
+    let is : c.wear.result ≡ Ok (Ok _) = c.in-Ok-Ok.is ∙ ap Ok c.in-Ok-Ok.field-0-is in
     let came = reached _ c.args.segment c.args.sector c.wear.result
     (Wears g.T.Tape.means c.insert.new.self c.wear.new.self c.args.segment c.args.sector)
-    c.wear.ensures.absent c.wear.ensures.misplaced c.wear.ensures.placed (λ is. let other = c.in-Ok.is in cc)
-    (λ is. let other = c.in-Ok.is in cc) in
+    c.wear.ensures.absent c.wear.ensures.misplaced c.wear.ensures.placed (λ other. cc)
+    (λ other. cc) in
     let before = told_back g.T.Tape.means c.args.unit.now.tape c.insert.new.self.tape
     (IsInfoOf _) c.in_default.ensures.did c.in_default.ensures.inserted.known.told in
     rw c.printed.ensures (printed g.T.Tape.means g.K.Sink.means (Lose c.args.segment c.args.sector) is_blind c.args.unit.now.tape
@@ -35,12 +36,13 @@ returns-in-Ok g c =
     (told_map _ (IsInfoOf _) (λ h. Rules (Lose c.args.segment c.args.sector) h
     (carried_out (Wear c.args.segment c.args.sector) (lost_line c.args.segment c.args.sector))) before
     (λ held known. λ input. lose_placed c.args.segment c.args.sector came.info held (sym came.known ∙ known) came.place))
-    (Done-after_reads c.in_default.ensures.did (rw c.in-Ok.is at came.fact))
-    (rw (c.bytes.ensures, c.place_text.ensures, c.from.ensures, c.from-in-Ok.ensures) at c.write_text.ensures))
+    (Done-after_reads c.in_default.ensures.did (rw is at came.fact))
+    (rw (c.bytes.ensures, c.place_text.ensures, c.from.ensures, c.from-in-Ok-Ok.ensures) at c.write_text.ensures))
 
-pub returns-in-Err-NoCartridge : goal.returns-in-Err-NoCartridge
-returns-in-Err-NoCartridge g c =
-    let is : c.wear.result ≡ Err hand.NoCartridge = c.in-Err-NoCartridge.is ∙ ap Err c.in-Err-NoCartridge.field-0-is in
+pub returns-in-Ok-Err-NoCartridge : goal.returns-in-Ok-Err-NoCartridge
+returns-in-Ok-Err-NoCartridge g c =
+    let is : c.wear.result ≡ Ok (Err hand.NoCartridge) =
+    c.in-Ok-Err-NoCartridge.is ∙ ap Ok (c.in-Ok-Err-NoCartridge.field-0-is ∙ ap Err c.in-Ok-Err-NoCartridge.field-0-0-is) in
     let none = unknown _ c.args.segment c.args.sector c.wear.result
     (Wears g.T.Tape.means c.insert.new.self c.wear.new.self c.args.segment c.args.sector)
     c.wear.ensures.misplaced c.wear.ensures.placed is (λ never. never) in
@@ -53,9 +55,10 @@ returns-in-Err-NoCartridge g c =
     (λ held known. λ input. lose_absent c.args.segment c.args.sector held (sym none ∙ known)))
     (subst (λ (u : UnitView _). tapes.Done g.T.Tape.means c.args.unit.now.tape u.tape []) (sym same) c.in_default.ensures.did)
 
-pub returns-in-Err-BadPlace : goal.returns-in-Err-BadPlace
-returns-in-Err-BadPlace g c =
-    let is : c.wear.result ≡ Err hand.BadPlace = c.in-Err-BadPlace.is ∙ ap Err c.in-Err-BadPlace.field-0-is in
+pub returns-in-Ok-Err-BadPlace : goal.returns-in-Ok-Err-BadPlace
+returns-in-Ok-Err-BadPlace g c =
+    let is : c.wear.result ≡ Ok (Err hand.BadPlace) =
+    c.in-Ok-Err-BadPlace.is ∙ ap Ok (c.in-Ok-Err-BadPlace.field-0-is ∙ ap Err c.in-Ok-Err-BadPlace.field-0-0-is) in
     let out = no_place _ c.args.segment c.args.sector c.wear.result
     (Wears g.T.Tape.means c.insert.new.self c.wear.new.self c.args.segment c.args.sector)
     c.wear.ensures.absent c.wear.ensures.placed is (λ never. never) in
@@ -69,9 +72,9 @@ returns-in-Err-BadPlace g c =
     (λ held known. λ input. lose_misplaced c.args.segment c.args.sector out.info held (sym out.known ∙ known) out.none))
     (subst (λ (u : UnitView _). tapes.Done g.T.Tape.means c.args.unit.now.tape u.tape []) (sym same) c.in_default.ensures.did)
 
-pub returns-in-Err-Tape : goal.returns-in-Err-Tape
-returns-in-Err-Tape g c =
-    let is : c.wear.result ≡ Err hand.Tape = c.in-Err-Tape.is ∙ ap Err c.in-Err-Tape.field-0-is in
+pub returns-in-Err-wear : goal.returns-in-Err-wear
+returns-in-Err-wear g c =
+    let is : c.wear.result ≡ Err _ = c.in-Err-wear.is in
     let came = reached _ c.args.segment c.args.sector c.wear.result
     (Wears g.T.Tape.means c.insert.new.self c.wear.new.self c.args.segment c.args.sector)
     c.wear.ensures.absent c.wear.ensures.misplaced c.wear.ensures.placed (λ is. let other = is in cc) (λ is. let other = is in cc) in

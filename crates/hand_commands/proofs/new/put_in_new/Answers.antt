@@ -32,9 +32,8 @@ returns-in-Ok g c =
     (always c.args.segments _) c.in-Ok.ensures.1
     (rw (c.bytes.ensures, c.number_text.ensures, c.from.ensures) at c.write_text.ensures))
 
-pub returns-in-Err-Tape : goal.returns-in-Err-Tape
-returns-in-Err-Tape g c =
-    let broke = rw c.in-Err-Tape.field-0-is at c.in-Err-Tape.ensures in
+pub returns-in-Err : goal.returns-in-Err
+returns-in-Err g c =
     cut_off g.T.Tape.means g.K.Sink.means (New c.args.segments) is_blind c.args.unit.now.tape c.load_blank.new.self.tape c.args.sink.now
     (Renew c.args.segments ∷ []) g.met.K.Sink.took_nothing
-    (front c.args.segments _) broke.1
+    (front c.args.segments _) c.in-Err.ensures.1

@@ -1,8 +1,8 @@
-use Rattle.std.proofs.Common.{◌≡◌, List, [], ◌∷◌, ◌++◌, Err, refl, sym, ap, ◌∙◌, subst}
+use Rattle.std.proofs.Common.{◌≡◌, List, [], ◌∷◌, ◌++◌, Ok, Err, refl, sym, ap, ◌∙◌, subst}
 use Rattle.qic_base.specs.Step.{Step as TapeStep, SetProtected}
 use Rattle.qic_base.specs.Tape as tapes
 use Rattle.qic_base.proofs.Steps.{Done-after_reads, Broke-after_reads}
-use Rattle.drive_states.specs.Hand.{Replaces}
+use Rattle.drive_states.specs.Hand.{IsCarriedOut, Replaces}
 use Rattle.drive_states.specs.Unit.{UnitView}
 use Rattle.drive_states.specs.declared.fault.HandFault.TheVariants as hand
 use Rattle.command_spec.specs.declared.words.Words.TheVariants.{Protect}
@@ -20,10 +20,12 @@ use Rattle.hand_commands.proofs.protect.protect.Goals as goal
 is_blind : {on : _} → IsBlind (Protect on)
 is_blind = record { reads = refl }
 
-pub returns-in-Ok : goal.returns-in-Ok
-returns-in-Ok g c =
-    let came = switched _ c.protect.result (Replaces g.T.Tape.means c.insert.new.self c.protect.new.self (SetProtected c.args.on)) _
-    c.protect.ensures.absent c.protect.ensures.present (λ is. let other = c.in-Ok.is in cc) in
+pub returns-in-Ok-Ok : goal.returns-in-Ok-Ok
+returns-in-Ok-Ok g c =
+    let is : c.protect.result ≡ Ok (Ok _) = c.in-Ok-Ok.is ∙ ap Ok c.in-Ok-Ok.field-0-is in
+    let came = switched _ c.protect.result
+    (IsCarriedOut (Replaces g.T.Tape.means c.insert.new.self c.protect.new.self (SetProtected c.args.on))) _
+    c.protect.ensures.absent c.protect.ensures.present (λ other. cc) in
     let before = told_back g.T.Tape.means c.args.unit.now.tape c.insert.new.self.tape
     (IsInfoOf _) c.in_default.ensures.did c.in_default.ensures.inserted.known.told in
     rw c.printed.ensures (printed g.T.Tape.means g.K.Sink.means (Protect c.args.on) is_blind c.args.unit.now.tape c.protect.new.self.tape
@@ -31,13 +33,15 @@ returns-in-Ok g c =
     (carried_out (SetProtected c.args.on) (protected_line c.args.on)) c.write_text.result refl refl refl refl
     (told_map _ (IsInfoOf _) (λ h. Rules (Protect c.args.on) h (carried_out (SetProtected c.args.on) (protected_line c.args.on))) before
     (λ held known. λ input. protect_present c.args.on came.info held (sym came.known ∙ known)))
-    (Done-after_reads c.in_default.ensures.did (rw c.in-Ok.is at came.fact).1)
+    (Done-after_reads c.in_default.ensures.did (rw is at came.fact).1)
     (rw c.protected_text.ensures at c.write_text.ensures))
 
-pub returns-in-Err-NoCartridge : goal.returns-in-Err-NoCartridge
-returns-in-Err-NoCartridge g c =
-    let is : c.protect.result ≡ Err hand.NoCartridge = c.in-Err-NoCartridge.is ∙ ap Err c.in-Err-NoCartridge.field-0-is in
-    let none = no_switch _ c.protect.result (Replaces g.T.Tape.means c.insert.new.self c.protect.new.self (SetProtected c.args.on)) _
+pub returns-in-Ok-Err-NoCartridge : goal.returns-in-Ok-Err-NoCartridge
+returns-in-Ok-Err-NoCartridge g c =
+    let is : c.protect.result ≡ Ok (Err hand.NoCartridge) =
+    c.in-Ok-Err-NoCartridge.is ∙ ap Ok (c.in-Ok-Err-NoCartridge.field-0-is ∙ ap Err c.in-Ok-Err-NoCartridge.field-0-0-is) in
+    let none = no_switch _ c.protect.result
+    (IsCarriedOut (Replaces g.T.Tape.means c.insert.new.self c.protect.new.self (SetProtected c.args.on))) _
     c.protect.ensures.absent c.protect.ensures.present is (λ never. never) in
     let before = told_back g.T.Tape.means c.args.unit.now.tape c.insert.new.self.tape
     (IsInfoOf _) c.in_default.ensures.did c.in_default.ensures.inserted.known.told in
@@ -47,10 +51,11 @@ returns-in-Err-NoCartridge g c =
     (λ held known. λ input. protect_absent c.args.on held (sym none.known ∙ known)))
     (subst (λ (u : UnitView _). tapes.Done g.T.Tape.means c.args.unit.now.tape u.tape []) (sym none.same) c.in_default.ensures.did)
 
-pub returns-in-Err-Tape : goal.returns-in-Err-Tape
-returns-in-Err-Tape g c =
-    let is : c.protect.result ≡ Err hand.Tape = c.in-Err-Tape.is ∙ ap Err c.in-Err-Tape.field-0-is in
-    let came = switched _ c.protect.result (Replaces g.T.Tape.means c.insert.new.self c.protect.new.self (SetProtected c.args.on)) _
+pub returns-in-Err-protect : goal.returns-in-Err-protect
+returns-in-Err-protect g c =
+    let is : c.protect.result ≡ Err _ = c.in-Err-protect.is in
+    let came = switched _ c.protect.result
+    (IsCarriedOut (Replaces g.T.Tape.means c.insert.new.self c.protect.new.self (SetProtected c.args.on))) _
     c.protect.ensures.absent c.protect.ensures.present (λ no. cc) in
     let before = told_back g.T.Tape.means c.args.unit.now.tape c.insert.new.self.tape
     (IsInfoOf _) c.in_default.ensures.did c.in_default.ensures.inserted.known.told in

@@ -1,8 +1,8 @@
-use Rattle.std.proofs.Common.{◌≡◌, List, [], ◌∷◌, ◌++◌, Err, IfSome, refl, sym, ap, ◌∙◌, subst}
+use Rattle.std.proofs.Common.{◌≡◌, List, [], ◌∷◌, ◌++◌, Ok, Err, IfSome, refl, sym, ap, ◌∙◌, subst}
 use Rattle.qic_base.specs.Step.{Step as TapeStep, Upgrade as Upgrading}
 use Rattle.qic_base.specs.Tape as tapes
 use Rattle.qic_base.proofs.Steps.{Done-after_reads, Broke-after_reads, Tells-read}
-use Rattle.drive_states.specs.Hand.{Upgrades}
+use Rattle.drive_states.specs.Hand.{IsCarriedOut, Upgrades}
 use Rattle.drive_states.specs.Unit.{UnitView}
 use Rattle.drive_states.specs.declared.fault.HandFault.TheVariants as hand
 use Rattle.command_spec.specs.declared.words.Words.TheVariants.{Upgrade}
@@ -20,28 +20,32 @@ use Rattle.hand_commands.proofs.upgrade.upgrade.Goals as goal
 is_blind : IsBlind Upgrade
 is_blind = record { reads = refl }
 
-pub returns-in-Ok : goal.returns-in-Ok
-returns-in-Ok g c =
-    let came = switched _ c.upgrade.result (Upgrades g.T.Tape.means c.insert.new.self c.upgrade.new.self) _ c.upgrade.ensures.absent
-    c.upgrade.ensures.present (λ is. let other = c.in-Ok.is in cc) in
+pub returns-in-Ok-Ok : goal.returns-in-Ok-Ok
+returns-in-Ok-Ok g c =
+    let is : c.upgrade.result ≡ Ok (Ok _) = c.in-Ok-Ok.is ∙ ap Ok c.in-Ok-Ok.field-0-is in
+    let came = switched _ c.upgrade.result
+    (IsCarriedOut (Upgrades g.T.Tape.means c.insert.new.self c.upgrade.new.self)) _ c.upgrade.ensures.absent
+    c.upgrade.ensures.present (λ other. cc) in
     let before = told_back g.T.Tape.means c.args.unit.now.tape c.insert.new.self.tape
     (IsInfoOf _) c.in_default.ensures.did c.in_default.ensures.inserted.known.told in
-    let done = (rw c.in-Ok.is at came.fact).1 in
+    let done = (rw is at came.fact).1 in
     rw c.printed.ensures (printed g.T.Tape.means g.K.Sink.means Upgrade is_blind c.args.unit.now.tape c.upgrade.new.self.tape
     c.args.sink.now c.write_text.new.sink
-    (carried_out Upgrading (upgraded_line c.in-Ok.version)) c.write_text.result refl refl refl
-    (c.in-Ok.version, done.layout.oldest, done.layout.newest, refl)
-    (told_map _ _ (λ h. Rules Upgrade h (carried_out Upgrading (upgraded_line c.in-Ok.version)))
-    (told_both _ (IsInfoOf _) (λ h. IfSome h (λ d. c.in-Ok.version ≡ d.version)) before
-    (Tells-read (λ d. c.in-Ok.version ≡ d.version) c.in_default.ensures.did done.told))
-    (λ held is input. upgrade_present came.info c.in-Ok.version held (sym came.known ∙ is.0) is.1))
+    (carried_out Upgrading (upgraded_line c.in-Ok-Ok.version)) c.write_text.result refl refl refl
+    (c.in-Ok-Ok.version, done.layout.oldest, done.layout.newest, refl)
+    (told_map _ _ (λ h. Rules Upgrade h (carried_out Upgrading (upgraded_line c.in-Ok-Ok.version)))
+    (told_both _ (IsInfoOf _) (λ h. IfSome h (λ d. c.in-Ok-Ok.version ≡ d.version)) before
+    (Tells-read (λ d. c.in-Ok-Ok.version ≡ d.version) c.in_default.ensures.did done.told))
+    (λ held is input. upgrade_present came.info c.in-Ok-Ok.version held (sym came.known ∙ is.0) is.1))
     (Done-after_reads c.in_default.ensures.did done.done)
     (rw (c.bytes.ensures, c.number_text.ensures, c.from.ensures) at c.write_text.ensures))
 
-pub returns-in-Err-NoCartridge : goal.returns-in-Err-NoCartridge
-returns-in-Err-NoCartridge g c =
-    let is : c.upgrade.result ≡ Err hand.NoCartridge = c.in-Err-NoCartridge.is ∙ ap Err c.in-Err-NoCartridge.field-0-is in
-    let none = no_switch _ c.upgrade.result (Upgrades g.T.Tape.means c.insert.new.self c.upgrade.new.self) _ c.upgrade.ensures.absent
+pub returns-in-Ok-Err-NoCartridge : goal.returns-in-Ok-Err-NoCartridge
+returns-in-Ok-Err-NoCartridge g c =
+    let is : c.upgrade.result ≡ Ok (Err hand.NoCartridge) =
+    c.in-Ok-Err-NoCartridge.is ∙ ap Ok (c.in-Ok-Err-NoCartridge.field-0-is ∙ ap Err c.in-Ok-Err-NoCartridge.field-0-0-is) in
+    let none = no_switch _ c.upgrade.result
+    (IsCarriedOut (Upgrades g.T.Tape.means c.insert.new.self c.upgrade.new.self)) _ c.upgrade.ensures.absent
     c.upgrade.ensures.present is (λ never. never) in
     let before = told_back g.T.Tape.means c.args.unit.now.tape c.insert.new.self.tape
     (IsInfoOf _) c.in_default.ensures.did c.in_default.ensures.inserted.known.told in
@@ -51,10 +55,11 @@ returns-in-Err-NoCartridge g c =
     (λ held known. λ input. upgrade_absent held (sym none.known ∙ known)))
     (subst (λ (u : UnitView _). tapes.Done g.T.Tape.means c.args.unit.now.tape u.tape []) (sym none.same) c.in_default.ensures.did)
 
-pub returns-in-Err-Tape : goal.returns-in-Err-Tape
-returns-in-Err-Tape g c =
-    let is : c.upgrade.result ≡ Err hand.Tape = c.in-Err-Tape.is ∙ ap Err c.in-Err-Tape.field-0-is in
-    let came = switched _ c.upgrade.result (Upgrades g.T.Tape.means c.insert.new.self c.upgrade.new.self) _ c.upgrade.ensures.absent
+pub returns-in-Err-upgrade : goal.returns-in-Err-upgrade
+returns-in-Err-upgrade g c =
+    let is : c.upgrade.result ≡ Err _ = c.in-Err-upgrade.is in
+    let came = switched _ c.upgrade.result
+    (IsCarriedOut (Upgrades g.T.Tape.means c.insert.new.self c.upgrade.new.self)) _ c.upgrade.ensures.absent
     c.upgrade.ensures.present (λ no. cc) in
     let before = told_back g.T.Tape.means c.args.unit.now.tape c.insert.new.self.tape
     (IsInfoOf _) c.in_default.ensures.did c.in_default.ensures.inserted.known.told in

@@ -1,7 +1,7 @@
 use Rattle.std.proofs.Common.{None, Err, ap, subst}
 use Rattle.qic_base.specs.Alone.{reading}
 use Rattle.qic_base.specs.SinkCalls.{Writes}
-use Rattle.segment_io.specs.declared.fault.StoreFault.{StoreFault}
+use Rattle.qic_base.specs.declared.store_fault.StoreFault.{StoreFault}
 use Rattle.volume_store.specs.Appending.{AppendEnds}
 use Rattle.command_spec.specs.Lines.{appended_line}
 use Rattle.volume_store.proofs.Opened.{unlocked_where}

@@ -1,6 +1,6 @@
 use Rattle.std.proofs.Common.{◌≤◌, ℕ, false, Err, subst}
 use Rattle.qic_base.specs.Alone.{around}
-use Rattle.segment_io.specs.declared.fault.StoreFault.{StoreFault}
+use Rattle.qic_base.specs.declared.store_fault.StoreFault.{StoreFault}
 use Rattle.volume_store.specs.Restoring.{RestoreEnds}
 use Rattle.host_commands.proofs.Restored.{restore_refused, restore_done, restore_failed}
 use Rattle.host_commands.proofs.restore.restore.Goals as goal

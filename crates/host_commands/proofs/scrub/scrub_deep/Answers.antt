@@ -3,7 +3,7 @@ use Rattle.command_spec.specs.declared.depth.Depth.TheVariants.{Deep}
 use Rattle.qic_base.specs.Alone.{around}
 use Rattle.volume_store.specs.Scrubbing.{MendEnds}
 use Rattle.volume_store.proofs.Opened.{unlocked_where}
-use Rattle.segment_io.specs.declared.fault.StoreFault.{StoreFault}
+use Rattle.qic_base.specs.declared.store_fault.StoreFault.{StoreFault}
 use Rattle.host_commands.proofs.Scrubbed.{deep_form, refused_form, scrub_failed, scrubbed}
 use Rattle.command_spec.specs.declared.words.Words.TheVariants as words
 use Rattle.host_commands.proofs.scrub.scrub_deep.Goals as goal

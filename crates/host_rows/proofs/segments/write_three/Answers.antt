@@ -2,8 +2,12 @@ use Rattle.std.proofs.Common.{rules, ◌≡◌, ℕ, ◌^◌, ◌<◌, subst, sy
 use Rattle.host_rows.proofs.Masks.{marked_carries, marked_count}
 use Rattle.host_rows.proofs.segments.write_three.Goals as goal
 
-pub write_sectors-requires-clause-segment : goal.write_sectors-requires-clause-segment
-write_sectors-requires-clause-segment c = record { referenced = search rules; on_tape = search rules; carries = marked_carries }
+pub write_sectors-requires-clause-can : goal.write_sectors-requires-clause-can
+write_sectors-requires-clause-can c = record {
+  ready = search rules;
+  segment = record { referenced = search rules; on_tape = search rules; carries = marked_carries };
+  writable = search rules;
+}
 
 pub write_sectors-requires-clause-within : goal.write_sectors-requires-clause-within
 write_sectors-requires-clause-within c =

@@ -1,7 +1,7 @@
 use Rattle.std.proofs.Common.{◌≡◌, Err, ap, arith}
 use Rattle.std.proofs.lemmas.Grind.{common_steps}
 use Rattle.drive_spec.specs.Terms.{is_protected}
-use Rattle.segment_io.specs.declared.fault.StoreFault.{StoreFault}
+use Rattle.qic_base.specs.declared.store_fault.StoreFault.{StoreFault}
 use Rattle.made_volumes.proofs.Appends.{append_so_at, append_done, appended_entry, not_marked}
 use Rattle.made_volumes.proofs.appending.append_volume.Goals as goal
 

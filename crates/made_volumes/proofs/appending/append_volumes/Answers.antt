@@ -1,7 +1,7 @@
 use Rattle.std.proofs.Common.{◌≡◌, Err, Ok, ◌∙◌, arith}
 use Rattle.std.proofs.lemmas.Grind.{common_steps}
 use Rattle.qic_base.specs.Alone.{around}
-use Rattle.segment_io.specs.declared.fault.StoreFault.{StoreFault}
+use Rattle.qic_base.specs.declared.store_fault.StoreFault.{StoreFault}
 use Rattle.made_volumes.proofs.Going.{append_next, append_failed, append_listed}
 use Rattle.made_volumes.proofs.Listing.{listed_loop}
 use Rattle.made_volumes.proofs.appending.append_volumes.Goals as goal

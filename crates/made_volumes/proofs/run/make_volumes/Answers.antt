@@ -3,7 +3,7 @@ use Rattle.std.proofs.lemmas.Grind.{common_steps}
 use Rattle.qic_base.specs.Alone.{around, no_sink}
 use Rattle.cartridge_spec.specs.Table.{Entry}
 use Rattle.volume_store.specs.Mounting.{StoreView}
-use Rattle.segment_io.specs.declared.fault.StoreFault.{StoreFault}
+use Rattle.qic_base.specs.declared.store_fault.StoreFault.{StoreFault}
 use Rattle.command_spec.specs.Make.{ScrubAll, made_list}
 use Rattle.made_volumes.proofs.Going.{same_store, wears_of_made, sums_of_made, make_unappended, make_appended, make_unworn, make_worn}
 use Rattle.made_volumes.proofs.Going.{make_unscrubbed, make_scrubbed}

@@ -1,7 +1,7 @@
 use Rattle.std.proofs.Common.{◌≡◌, Err, ap, arith}
 use Rattle.std.proofs.lemmas.Grind.{common_steps}
 use Rattle.drive_spec.specs.Terms.{is_protected}
-use Rattle.segment_io.specs.declared.fault.StoreFault.{StoreFault}
+use Rattle.qic_base.specs.declared.store_fault.StoreFault.{StoreFault}
 use Rattle.made_volumes.proofs.Appends.{not_marked}
 use Rattle.made_volumes.proofs.Others.{scrub_done, scrub_so, scrub_never_full}
 use Rattle.made_volumes.proofs.run.scrub.Goals as goal

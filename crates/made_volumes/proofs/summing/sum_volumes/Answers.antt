@@ -1,7 +1,7 @@
 use Rattle.std.proofs.Common.{◌≡◌, ℕ, ◌+◌, ◌-◌, [], ◌∷◌, length, Err, Ok, refl, ◌∙◌, subst, arith}
 use Rattle.std.proofs.lemmas.Grind.{common_steps}
 use Rattle.qic_base.specs.Alone.{around}
-use Rattle.segment_io.specs.declared.fault.StoreFault.{StoreFault}
+use Rattle.qic_base.specs.declared.store_fault.StoreFault.{StoreFault}
 use Rattle.command_spec.specs.Make.{SumVolume, summing}
 use Rattle.made_volumes.specs.Runs.{HasRun}
 use Rattle.made_volumes.proofs.Going.{sums_begun, sums_next, sums_failed, same_store}

@@ -6,7 +6,7 @@ use Rattle.qic_base.specs.CartridgeTerms.{IsLost}
 use Rattle.cartridge_spec.specs.Shape.{mask_at}
 use Rattle.drive_states.specs.Unit.{UnitView}
 use Rattle.volume_store.specs.Mounting.{StoreView}
-use Rattle.segment_io.specs.declared.fault.StoreFault.{StoreFault}
+use Rattle.qic_base.specs.declared.store_fault.StoreFault.{StoreFault}
 use Rattle.command_spec.specs.Make.{WearSector}
 use Rattle.command_laws.specs.MadeTerms.{wearing}
 use Rattle.made_volumes.specs.Runs.{HasRun, RunEnds}

@@ -4,7 +4,7 @@ use Rattle.qic_base.specs.Alone.{around, no_sink}
 use Rattle.cartridge_spec.specs.Volumes.{carrying, carrying_segments}
 use Rattle.volume_table.specs.Entry.{entry_of}
 use Rattle.volume_store.specs.Mounting.{StoreView}
-use Rattle.segment_io.specs.declared.fault.StoreFault.{StoreFault}
+use Rattle.qic_base.specs.declared.store_fault.StoreFault.{StoreFault}
 use Rattle.command_spec.specs.Make.{wearing_in}
 use Rattle.made_volumes.specs.Runs.{HasRun, RunEnds}
 use Rattle.made_volumes.proofs.Going.{segments_begun, segments_next, segments_failed, of_entry}

@@ -5,7 +5,7 @@ use Rattle.qic_base.specs.Alone.{around, no_sink}
 use Rattle.cartridge_spec.specs.Table.{Entry}
 use Rattle.cartridge_spec.specs.Volumes.{carrying_segments}
 use Rattle.volume_store.specs.Mounting.{StoreView}
-use Rattle.segment_io.specs.declared.fault.StoreFault.{StoreFault}
+use Rattle.qic_base.specs.declared.store_fault.StoreFault.{StoreFault}
 use Rattle.command_spec.specs.Make.{wearing_in, wearing_volumes}
 use Rattle.made_volumes.specs.Runs.{HasRun, RunEnds}
 use Rattle.made_volumes.proofs.Going.{volumes_begun, volume_there, volumes_go_on, volumes_failed}

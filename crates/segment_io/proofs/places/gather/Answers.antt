@@ -7,7 +7,7 @@ use Rattle.segment_io.proofs.places.gather.Goals as goal
 use Rattle.segment_io.proofs.places.gather.Goals.{then-contains, then-not-contains, else-not-contains, else-contains}
 
 pub loop-index-init : goal.loop-index-init
-loop-index-init c = begun c.args.usable c.args.good c.args.sectors.now c.requires.room
+loop-index-init c = begun c.args.usable c.args.good c.args.sectors.now (omega arith)
 
 pub move_to-requires-clause-place : goal.move_to-requires-clause-place
 move_to-requires-clause-place c = omega (arith, count_below c.args.usable c.loop-index.index)

@@ -40,5 +40,5 @@ loop-index-preserved c =
 pub returns : goal.returns
 returns c =
     let end : c.loop-index.index ≡ 32 = omega arith in
-    chosen_of_first c.args.usable c.args.sectors.now c.loop-index.spread (omega (arith, c.requires, count_below c.args.usable 32))
+    chosen_of_first c.args.usable c.args.sectors.now c.loop-index.spread (omega (arith, count_below c.args.usable 32))
     (subst (λ (i : ℕ). AreSpread c.args.usable i c.args.sectors.now c.loop-index.spread) end c.loop-index.invariant.stand)

@@ -1,4 +1,4 @@
-use Rattle.std.proofs.Common.{ℕ, List, subst, sym, take}
+use Rattle.std.proofs.Common.{ℕ, List, Ok, subst, sym, take}
 use Rattle.cartridge_laws.proofs.Segments.{count_of_cells}
 use Rattle.cartridge_spec.specs.Says.{Agrees, cells_of}
 use Rattle.command_spec.specs.Scrub.{Looked}
@@ -8,7 +8,7 @@ use Rattle.qic_base.proofs.Steps.{Tells-map}
 use Rattle.qic_base.specs.TapeCalls.{Tells}
 use Rattle.segment_io.proofs.Going.{tells_then}
 use Rattle.segment_io.specs.Gathered.{Gathered, NamesUnreadable}
-use Rattle.segment_io.specs.Reading.{HasSolved}
+use Rattle.segment_io.specs.Reading.{HasSolved, IsRead}
 use Rattle.segment_mending.specs.Locating.{DeepFinds, Finds, IsDeep, IsFoundBy}
 use Rattle.segment_mending.proofs.locating.find_in_segment.Goals as goal
 
@@ -30,6 +30,7 @@ pub returns-in-Ok-clause-found : goal.returns-in-Ok-clause-found
 returns-in-Ok-clause-found g c =
     let l : Looked = record { segment = c.args.segment; mask = c.args.usable } in
     let work : List (List ℕ) = c.read_segment.new.work in
+    let read : IsRead c.args.segment c.args.usable work (Ok c.in-Ok.lost) = rw c.in-Ok.is at c.in_ok-lost-in-Shallow.ensures.read in
     let told : Tells g.T.Tape.means c.args.unit.now.tape (λ c'. IsFoundBy (IsDeep c.args.depth) c' l c.found_block.result work) =
     tells_then g.T.Tape.means c.args.unit.now.tape
     (λ c'. NamesUnreadable (cells_of c' c.args.segment c.args.usable) c.in-Ok.lost)
@@ -39,11 +40,11 @@ returns-in-Ok-clause-found g c =
     IsFoundBy (IsDeep c.args.depth) c' l c.found_block.result work)
     (λ c' solved names. c.found_block.ensures.found c.args.depth c' names (record {
       few = solved.says.0;
-      code = c.in-Ok.ensures.block;
+      code = read.block;
       agrees = subst (λ (k : ℕ). Agrees (cells_of c' c.args.segment c.args.usable) (take k work))
           (count_of_cells c' c.args.segment c.args.usable) solved.agrees;
     }))
-    (c.in-Ok.ensures.solves (λ same. cc)))
-    c.in-Ok.ensures.unreadable in
+    (rw c.in-Ok.is at c.in_ok-lost-in-Shallow.ensures.solves))
+    (rw c.in-Ok.is at c.in_ok-lost-in-Shallow.ensures.unreadable) in
     let none : IsDeep c.args.depth → ⊥ = λ is. subst IsDeep c.in-Shallow.is is in
     record { told = told; may = c.found_block.ensures.may c.args.depth (λ is. absurd (none is)) }

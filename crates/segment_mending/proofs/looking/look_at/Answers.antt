@@ -11,7 +11,7 @@ use Rattle.command_laws.proofs.Passing.{passed}
 use Rattle.command_spec.specs.Scrub.{Counts, IsSearched, Looked}
 use Rattle.command_spec.specs.declared.depth.Depth.{Depth}
 use Rattle.segment_io.proofs.Going.{OnOk-then}
-use Rattle.segment_io.specs.declared.fault.StoreFault.TheVariants.{Sink, Tape}
+use Rattle.qic_base.specs.declared.store_fault.StoreFault.TheVariants.{Sink, Tape}
 use Rattle.segment_mending.specs.declared.locating.Found.TheVariants.{Reads, Fails}
 use Rattle.segment_mending.specs.declared.locating.Unread.{Unread}
 use Rattle.segment_mending.specs.Locating.{Finds, IsDeep, MayMend, finding_of, mending, unread_saying}

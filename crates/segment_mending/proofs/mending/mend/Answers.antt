@@ -2,7 +2,7 @@ use Rattle.std.proofs.Common.{◌≡◌, Err}
 use Rattle.command_spec.specs.Scrub.{Looked}
 use Rattle.segment_mending.specs.Locating.{mending}
 use Rattle.command_laws.proofs.Passing.{passed}
-use Rattle.segment_io.specs.declared.fault.StoreFault.TheVariants.{Sink, Tape}
+use Rattle.qic_base.specs.declared.store_fault.StoreFault.TheVariants.{Sink, Tape}
 use Rattle.segment_mending.proofs.Reading.{goes_broken, goes_unwritten, goes_written}
 use Rattle.segment_mending.proofs.mending.mend.Goals as goal
 

@@ -1,34 +1,46 @@
-use Rattle.std.proofs.Common.{◌≡◌, [], ◌∷◌, true, arith, Err}
+use Rattle.std.proofs.Common.{◌≡◌, ℕ, ◌<◌, [], ◌∷◌, true, arith, Err}
 use Rattle.qic_base.specs.Alone.{around}
+use Rattle.qic_base.specs.Tape.{Meaning}
 use Rattle.command_spec.specs.Scrub.{whole_segment}
-use Rattle.host_driver.proofs.Keeping.{cartridge_kept}
+use Rattle.drive_spec.specs.Terms.{is_referenced}
+use Rattle.drive_states.specs.Unit.{UnitView}
+use Rattle.host_driver.specs.declared.host.Host.{Host}
+use Rattle.host_driver.specs.Calls.{IsReady, MayWrite, Keeps}
+use Rattle.host_driver.proofs.Keeping.{cartridge_kept, may_write_kept}
+use Rattle.segment_io.specs.Calls.{CanWrite}
 use Rattle.segment_io.proofs.Going.{front_segment}
-use Rattle.segment_io.specs.declared.fault.StoreFault.{StoreFault}
+use Rattle.qic_base.specs.declared.store_fault.StoreFault.{StoreFault}
 use Rattle.segment_mending.specs.Looking.{HasLooked, Looks}
 use Rattle.segment_mending.proofs.Joining.{looked_both, looks_then, looks_longer}
 use Rattle.command_laws.proofs.Passing.{passed}
 use Rattle.segment_mending.proofs.scrubbing.look_at_front.Goals as goal
 
-pub look_at-requires-clause-segment : goal.look_at-requires-clause-segment
-look_at-requires-clause-segment g c = front_segment 0 c.requires.ready.fits c.requires.referenced (omega arith)
+-- a host that is ready can write a segment in front
+can_write : {T : Type 0} {m : Meaning T} {h : Host} {u : UnitView T} (segment : ℕ) → IsReady m h u → is_referenced u.drive.deck ≡ true →
+    MayWrite u.drive.deck → segment < 3 → CanWrite m h u segment 4294967295
+can_write segment ready referenced may front =
+    record { ready = ready; segment = front_segment segment ready.fits referenced front; writable = may }
 
-pub look_at-requires-2-clause-segment : goal.look_at-requires-2-clause-segment
-look_at-requires-2-clause-segment g c =
-    let first = c.in_ok-look_at.ensures.keeps in
-    front_segment 1 first.ready.fits
-    (cartridge_kept (λ info. info.referenced) true c.args.unit.now.drive.deck c.look_at.new.unit.drive.deck first.same
-    c.requires.referenced)
-    (omega arith)
+-- and another behind it
+can_write_next : {T : Type 0} {m : Meaning T} {h k : Host} {a b : UnitView T} (before segment : ℕ) →
+    CanWrite m h a before 4294967295 → Keeps m k a b → segment < 3 → CanWrite m k b segment 4294967295
+can_write_next {a = a} {b = b} before segment can keeps front =
+    can_write segment keeps.ready
+    (cartridge_kept (λ info. info.referenced) true a.drive.deck b.drive.deck keeps.same can.segment.referenced)
+    (may_write_kept a.drive.deck b.drive.deck keeps.same can.writable) front
 
-pub look_at-requires-3-clause-segment : goal.look_at-requires-3-clause-segment
-look_at-requires-3-clause-segment g c =
-    let first = c.in_ok-look_at.ensures.keeps in
-    let next = c.in_ok-look_at-2.ensures.keeps in
-    front_segment 2 next.ready.fits
-    (cartridge_kept (λ info. info.referenced) true c.look_at.new.unit.drive.deck c.look_at-2.new.unit.drive.deck next.same
-    (cartridge_kept (λ info. info.referenced) true c.args.unit.now.drive.deck c.look_at.new.unit.drive.deck first.same
-    c.requires.referenced))
-    (omega arith)
+pub look_at-requires-clause-can : goal.look_at-requires-clause-can
+look_at-requires-clause-can g c = can_write 0 c.requires.ready c.requires.referenced c.requires.writable (omega arith)
+
+pub look_at-requires-2-clause-can : goal.look_at-requires-2-clause-can
+look_at-requires-2-clause-can g c =
+    can_write_next 0 1 (can_write 0 c.requires.ready c.requires.referenced c.requires.writable (omega arith))
+    c.in_ok-look_at.ensures.keeps (omega arith)
+
+pub look_at-requires-3-clause-can : goal.look_at-requires-3-clause-can
+look_at-requires-3-clause-can g c =
+    can_write_next 1 2 (can_write_next 0 1 (can_write 0 c.requires.ready c.requires.referenced c.requires.writable (omega arith))
+    c.in_ok-look_at.ensures.keeps (omega arith)) c.in_ok-look_at-2.ensures.keeps (omega arith)
 
 pub returns-in_err-look_at-clause-looks : goal.returns-in_err-look_at-clause-looks
 returns-in_err-look_at-clause-looks g c =

@@ -5,8 +5,8 @@ use Rattle.qic_base.specs.SinkCalls as sink_calls
 use Rattle.cartridge_spec.specs.Table.{Entry}
 use Rattle.command_laws.proofs.Passing.{passed}
 use Rattle.command_spec.specs.Scrub.{whole_segment, looked_volumes, looked_at}
-use Rattle.segment_io.specs.declared.fault.StoreFault.{StoreFault}
-use Rattle.segment_io.specs.declared.fault.StoreFault.TheVariants.{Sink}
+use Rattle.qic_base.specs.declared.store_fault.StoreFault.{StoreFault}
+use Rattle.qic_base.specs.declared.store_fault.StoreFault.TheVariants.{Sink}
 use Rattle.segment_mending.specs.declared.progress.Progress.{Progress}
 use Rattle.segment_mending.specs.Looking.{HasLooked}
 use Rattle.segment_mending.specs.Mending.{reported}

@@ -7,7 +7,7 @@ use Rattle.command_spec.specs.Scrub.{Looked}
 use Rattle.command_laws.proofs.Passing.{passed}
 use Rattle.command_laws.specs.ScrubTerms.{looked_segments}
 use Rattle.host_driver.proofs.Keeping.{keeps_none, keeps_both}
-use Rattle.segment_io.specs.declared.fault.StoreFault.{StoreFault}
+use Rattle.qic_base.specs.declared.store_fault.StoreFault.{StoreFault}
 use Rattle.segment_mending.specs.Looking.{HasLooked, Looks}
 use Rattle.segment_mending.specs.Mending.{reported}
 use Rattle.segment_mending.proofs.Joining.{looked_none, looked_both, looks_then, looks_longer, few_after, few_more}

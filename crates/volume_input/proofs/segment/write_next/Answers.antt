@@ -18,7 +18,7 @@ pub overflow_cast-capacity : goal.overflow_cast-capacity
 overflow_cast-capacity g c =
     omega (
       arith,
-      data_sectors c.args.map.now c.args.segment c.capacity-capacity.result c.requires.segment.carries
+      data_sectors c.args.map.now c.args.segment c.capacity-capacity.result c.requires.can.segment.carries
           c.capacity-capacity.ensures,
       data_most c.args.map.now c.args.segment,
     )
@@ -27,7 +27,7 @@ pub fill_work-requires : goal.fill_work-requires
 fill_work-requires g c =
     omega (
       arith,
-      data_sectors c.args.map.now c.args.segment c.capacity-capacity.result c.requires.segment.carries
+      data_sectors c.args.map.now c.args.segment c.capacity-capacity.result c.requires.can.segment.carries
           c.capacity-capacity.ensures,
       data_most c.args.map.now c.args.segment,
     )
@@ -39,7 +39,7 @@ returns-in_err-read-clause-ends g c =
     c.fill_work.new.source
     c.in_err-read.ensures.cause.later
     c.args.map.now c.args.segment c.args.before c.args.wanted.most c.capacity-capacity.result
-    (is_exact c.args.wanted.length) c.requires.segment.carries c.capacity-capacity.ensures
+    (is_exact c.args.wanted.length) c.requires.can.segment.carries c.capacity-capacity.ensures
     c.in_err-read.ensures.cause.failed c.in_err-read.ensures.filled)
 
 pub returns-in_err-write_segment-clause-ends : goal.returns-in_err-write_segment-clause-ends
@@ -61,7 +61,7 @@ returns-in_err-write_segment-clause-ends g c =
     rw (p.1 ∙ ap Err p.2) (next_broken g.T.Tape.means g.S.Source.means c.args.unit.now.tape c.write_segment.new.unit.tape
     c.args.source.now c.fill_work.new.source c.fill_work.ensures.cause.later
     c.args.map.now c.args.segment c.args.before c.args.wanted.most c.capacity-capacity.result
-    (is_exact c.args.wanted.length) c.requires.segment.carries c.capacity-capacity.ensures
+    (is_exact c.args.wanted.length) c.requires.can.segment.carries c.capacity-capacity.ensures
     c.in_ok-read.ensures.cause.stood c.in_ok-read.read c.fill_work.new.work
     (subst (All IsSector) c.sectors.ensures.value c.are_sectors.ensures)
     c.in_ok-read.ensures.filled enough c.usable.result c.usable.ensures some c.in_err-write_segment.ensures.did)
@@ -84,7 +84,7 @@ returns-clause-ends g c =
     next_written g.T.Tape.means g.S.Source.means c.args.unit.now.tape c.write_segment.new.unit.tape
     c.args.source.now c.fill_work.new.source c.fill_work.ensures.cause.later
     c.args.map.now c.args.segment c.args.before c.args.wanted.most c.capacity-capacity.result
-    (is_exact c.args.wanted.length) c.requires.segment.carries c.capacity-capacity.ensures
+    (is_exact c.args.wanted.length) c.requires.can.segment.carries c.capacity-capacity.ensures
     c.in_ok-read.ensures.cause.stood c.in_ok-read.read c.fill_work.new.work
     (subst (All IsSector) c.sectors.ensures.value c.are_sectors.ensures)
     c.in_ok-read.ensures.filled enough c.usable.result c.usable.ensures some c.in_ok-write_segment.ensures.did
@@ -95,7 +95,7 @@ returns-then-read-min-clause-ends g c = (
   came_short g.T.Tape.means g.S.Source.means c.args.unit.now.tape c.args.unit.now.tape c.args.source.now c.fill_work.new.source
       c.fill_work.ensures.cause.later
       c.args.map.now c.args.segment c.args.before c.args.wanted.most c.capacity-capacity.result
-      (is_exact c.args.wanted.length) c.requires.segment.carries c.capacity-capacity.ensures
+      (is_exact c.args.wanted.length) c.requires.can.segment.carries c.capacity-capacity.ensures
       c.in_ok-read.ensures.cause.stood c.in_ok-read.read c.fill_work.new.work
       (subst (All IsSector) c.sectors.ensures.value c.are_sectors.ensures)
       c.in_ok-read.ensures.filled (let exact : c.args.wanted.length ≡ Exact = search rules in ap is_exact exact) (omega arith),

@@ -2,7 +2,7 @@ use Rattle.std.proofs.Common.{◌≡◌, Err, true, false, ap, Ok}
 use Rattle.drive_spec.specs.Terms.{is_protected}
 use Rattle.volume_script.proofs.Quiet.{unmarked, scrub_failed, scrub_done, tape_replied}
 use Rattle.volume_store.proofs.Fitting.{told_mark}
-use Rattle.segment_io.specs.declared.fault.StoreFault.TheVariants as fault
+use Rattle.qic_base.specs.declared.store_fault.StoreFault.TheVariants as fault
 use Rattle.volume_script.proofs.scrub.scrub.Goals as goal
 
 pub returns-in-Ok-clause-ends : goal.returns-in-Ok-clause-ends

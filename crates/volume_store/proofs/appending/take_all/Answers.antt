@@ -2,12 +2,12 @@ use Rattle.std.proofs.Common.{◌≡◌, ℕ, ◌+◌, None, Ok, Err, subst, sym
 use Rattle.command_laws.proofs.Passing.{passed}
 use Rattle.qic_base.specs.Alone.{reading}
 use Rattle.cartridge_spec.specs.Appending.{room}
-use Rattle.segment_io.specs.declared.fault.StoreFault.{StoreFault}
+use Rattle.qic_base.specs.declared.store_fault.StoreFault.{StoreFault}
 use Rattle.tape_script.specs.Reading.{Skips}
 use Rattle.volume_store.specs.Appending.{InputWent}
 use Rattle.command_spec.specs.Append.{TooLong}
 use Rattle.volume_store.proofs.Taking.{all_ended, all_fails, all_full, moved_all, no_more, one_more, more_fails}
-use Rattle.segment_io.specs.declared.fault.StoreFault.TheVariants as fault
+use Rattle.qic_base.specs.declared.store_fault.StoreFault.TheVariants as fault
 use Rattle.volume_store.proofs.appending.take_all.Goals as goal
 
 pub returns-in_err-written-clause-ends : goal.returns-in_err-written-clause-ends

@@ -2,12 +2,12 @@ use Rattle.std.proofs.Common.{◌∙◌, ℕ, ◌-◌, ◌*◌, ap, take, subst,
 use Rattle.command_laws.proofs.Passing.{passed}
 use Rattle.cartridge_laws.specs.Table.{IsSoundList}
 use Rattle.host_driver.specs.Fits.{segments_of}
-use Rattle.segment_io.specs.declared.fault.StoreFault.{StoreFault}
+use Rattle.qic_base.specs.declared.store_fault.StoreFault.{StoreFault}
 use Rattle.volume_store.proofs.FoundRoom.{look_found, look_refused}
 use Rattle.volume_store.proofs.Started.{there_of, present}
 use Rattle.volume_store.proofs.Storing.{sound_volumes}
 use Rattle.volume_store.specs.Opening.{HasStarted}
-use Rattle.segment_io.specs.declared.fault.StoreFault.TheVariants as fault
+use Rattle.qic_base.specs.declared.store_fault.StoreFault.TheVariants as fault
 use Rattle.volume_store.proofs.looking.find_room.Goals as goal
 
 pub returns-in_err-host : goal.returns-in_err-host

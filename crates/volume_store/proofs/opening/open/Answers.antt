@@ -1,9 +1,9 @@
 use Rattle.command_laws.proofs.Passing.{passed}
-use Rattle.segment_io.specs.declared.fault.StoreFault.{StoreFault}
+use Rattle.qic_base.specs.declared.store_fault.StoreFault.{StoreFault}
 use Rattle.volume_store.proofs.Mounted.{cut_first, open_shown, open_failed}
 use Rattle.volume_store.proofs.Started.{there_of, present}
 use Rattle.volume_store.specs.Opening.{HasStarted}
-use Rattle.segment_io.specs.declared.fault.StoreFault.TheVariants as fault
+use Rattle.qic_base.specs.declared.store_fault.StoreFault.TheVariants as fault
 use Rattle.volume_store.proofs.opening.open.Goals as goal
 
 pub returns-in_err-host : goal.returns-in_err-host

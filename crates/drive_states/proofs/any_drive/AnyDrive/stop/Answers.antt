@@ -17,3 +17,21 @@ stop-requires g c = stop_present c.in-LoadPoint.drive.deck (rw c.in-LoadPoint.is
 
 pub stop-requires-in-Primary : goal.stop-requires-in-Primary
 stop-requires-in-Primary g c = stop_present c.in-Primary.drive.deck (rw c.in-Primary.is at c.requires)
+
+pub stop-requires-in-Format : goal.stop-requires-in-Format
+stop-requires-in-Format g c = stop_present c.in-Format.drive.deck (rw c.in-Format.is at c.requires)
+
+pub stop-requires-in-Verify : goal.stop-requires-in-Verify
+stop-requires-in-Verify g c = stop_present c.in-Verify.drive.deck (rw c.in-Verify.is at c.requires)
+
+pub returns-in-LoadPoint : goal.returns-in-LoadPoint
+returns-in-LoadPoint g c = rw c.in-LoadPoint.is c.stop.ensures.drive
+
+pub returns-in-Primary : goal.returns-in-Primary
+returns-in-Primary g c = rw c.in-Primary.is c.stop-in-Primary.ensures.drive
+
+pub returns-in-Format : goal.returns-in-Format
+returns-in-Format g c = rw c.in-Format.is c.stop-in-Format.ensures.drive
+
+pub returns-in-Verify : goal.returns-in-Verify
+returns-in-Verify g c = rw c.in-Verify.is c.stop-in-Verify.ensures.drive

@@ -1,3 +1,4 @@
+use Rattle.std.proofs.Common.{refl}
 use Rattle.drive_states.proofs.Bounds.{IsSound-error}
 use Rattle.drive_states.proofs.drive.Drive.set_error.Goals as goal
 
@@ -8,3 +9,6 @@ invariant_of-self g c =
       record { mode = here.1.mode; at_load_point = here.1.at_load_point; seeks = here.1.seeks },
       here.2,
     )
+
+pub returns : goal.returns
+returns g c = rw (← c.self.view_is) refl

@@ -1,6 +1,6 @@
 use Rattle.std.proofs.Common.{Err, subst}
 use Rattle.qic_base.specs.Alone.{around}
-use Rattle.segment_io.specs.declared.fault.StoreFault.{StoreFault}
+use Rattle.qic_base.specs.declared.store_fault.StoreFault.{StoreFault}
 use Rattle.made_volumes.specs.Runs.{MakeEnds}
 use Rattle.tape_cmd.proofs.Made.{make_done, make_failed, make_refused}
 use Rattle.tape_cmd.proofs.command.make.make.Goals as goal

@@ -3,7 +3,7 @@ use Rattle.cartridge_spec.specs.Volumes.{bytes_in}
 use Rattle.drive_states.specs.Unit.{UnitView}
 use Rattle.volume_store.specs.Mounting.{StoreView}
 use Rattle.volume_store.specs.Restoring.{ReadsPart}
-use Rattle.segment_io.specs.declared.fault.StoreFault.{StoreFault}
+use Rattle.qic_base.specs.declared.store_fault.StoreFault.{StoreFault}
 use Rattle.volume_copy.proofs.Bytes.{none_unread, none_held, some_unread}
 use Rattle.volume_copy.proofs.Filling.{after, part_reads, part_held, part_some, some_sound, some_kept, some_left, none_sound}
 use Rattle.volume_copy.proofs.Filling.{none_kept, none_ended, none_known, again_sound, again_kept, again_left, refused_sound}

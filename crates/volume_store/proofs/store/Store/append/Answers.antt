@@ -1,8 +1,8 @@
 use Rattle.std.proofs.Common.{◌≡◌, Err, Ok, refl, take, sym, ap, ◌∙◌}
 use Rattle.header_segments.specs.Header.{header_of}
 use Rattle.volume_store.specs.Mounting.{StoreView}
-use Rattle.segment_io.specs.declared.fault.StoreFault.{StoreFault}
-use Rattle.segment_io.specs.declared.fault.StoreFault.TheVariants.{Tape}
+use Rattle.qic_base.specs.declared.store_fault.StoreFault.{StoreFault}
+use Rattle.qic_base.specs.declared.store_fault.StoreFault.TheVariants.{Tape}
 use Rattle.volume_store.proofs.BrokenUnread.{unread_first, unread_known}
 use Rattle.volume_store.proofs.Ending.{answered}
 use Rattle.volume_store.proofs.Ordering.{added_order, entry_order, input_order, ordered, settling_order}

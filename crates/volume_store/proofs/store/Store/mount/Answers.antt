@@ -6,8 +6,8 @@ use Rattle.drive_spec.specs.Terms.{is_protected}
 use Rattle.header_segments.specs.Header.{header_of}
 use Rattle.host_driver.specs.declared.host.Host.{Host}
 use Rattle.host_driver.specs.Fits.{segments_of}
-use Rattle.segment_io.specs.declared.fault.StoreFault.{StoreFault}
-use Rattle.segment_io.specs.declared.fault.StoreFault.TheVariants.{Tape}
+use Rattle.qic_base.specs.declared.store_fault.StoreFault.{StoreFault}
+use Rattle.qic_base.specs.declared.store_fault.StoreFault.TheVariants.{Tape}
 use Rattle.volume_store.specs.Mounting.{StoreView, Settles, IsSettling, SettlingBreaks, MountDoes}
 use Rattle.cartridge_front.specs.Settling.{mending_steps}
 use Rattle.command_laws.proofs.Passing.{passed}

@@ -6,7 +6,7 @@ use Rattle.cartridge_laws.specs.TableCells.{HasList}
 use Rattle.command_spec.specs.Restore.{pieces_of}
 use Rattle.header_segments.specs.Header.{header_of}
 use Rattle.qic_base.specs.TapeCalls.{Tells}
-use Rattle.segment_io.specs.declared.fault.StoreFault.{StoreFault}
+use Rattle.qic_base.specs.declared.store_fault.StoreFault.{StoreFault}
 use Rattle.volume_store.specs.Mounting.{StoreView}
 use Rattle.volume_table.specs.Entry.{entry_of}
 use Rattle.volume_store.proofs.Parts.{piece_of_volume, part_failed, part_tells}

@@ -6,14 +6,14 @@ use Rattle.cartridge_spec.specs.Table.{Entry}
 use Rattle.cartridge_spec.specs.Volumes.{carrying, volume_length}
 use Rattle.header_segments.specs.Header.{header_of}
 use Rattle.qic_base.specs.TapeCalls.{Tells}
-use Rattle.segment_io.specs.declared.fault.StoreFault.{StoreFault}
+use Rattle.qic_base.specs.declared.store_fault.StoreFault.{StoreFault}
 use Rattle.command_spec.specs.Restore.{pieces_of}
 use Rattle.volume_output.specs.Form.{is_lined}
 use Rattle.volume_store.specs.Mounting.{StoreView}
 use Rattle.volume_table.specs.Entry.{entry_of}
 use Rattle.volume_store.proofs.Restored.{volume_there, length_there, of_volume, restore_failed, output_told, still_fits}
 use Rattle.volume_store.proofs.Storing.{ends_within}
-use Rattle.segment_io.specs.declared.fault.StoreFault.TheVariants as fault
+use Rattle.qic_base.specs.declared.store_fault.StoreFault.TheVariants as fault
 use Rattle.volume_store.proofs.store.Store.restore.Goals as goal
 
 pub give_volume-requires-clause-on_tape : goal.give_volume-requires-clause-on_tape

@@ -6,7 +6,7 @@ use Rattle.volume_store.proofs.Worn.{worn_lists}
 use Rattle.volume_store.proofs.store.Store.wear.Goals as goal
 
 pub returns-clause-fits : goal.returns-clause-fits
-returns-clause-fits g c = λ place other.
+returns-clause-fits g c =
     let store : StoreView = c.args.self.now in
     let after : StoreView = record {
       host = c.wear.new.self;
@@ -15,12 +15,12 @@ returns-clause-fits g c = λ place other.
       entries = c.self.inside.table;
       part = take c.self.inside.shown c.self.inside.work;
     } in
-    still_fits g.T.Tape.means store after c.args.unit.now c.wear.new.unit c.requires.fits
+    worn_lists g.T.Tape.means c.args.unit.now c.wear.new.unit c.args.segment c.args.sector store.entries c.wear.result
+    c.wear.ensures.misplaced c.wear.ensures.placed c.requires.fits.volumes
+    (still_fits g.T.Tape.means store after c.args.unit.now c.wear.new.unit c.requires.fits
     (record {
       header = ap (λ (v : StoreView). v.header) c.self.view_is;
       words = ap (λ (v : StoreView). v.words) c.self.view_is;
       entries = ap (λ (v : StoreView). v.entries) c.self.view_is;
     })
-    c.wear.ensures.keeps
-    (worn_lists g.T.Tape.means c.args.unit.now c.wear.new.unit c.args.segment c.args.sector store.entries c.wear.result
-    (c.wear.ensures.placed place) other c.requires.fits.volumes)
+    c.wear.ensures.keeps)
