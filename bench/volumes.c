@@ -2,17 +2,24 @@
  *
  *     volumes run COMMAND ..        runs a command, and writes to descriptor 3 its seconds on the wall, those
  *                                   of a processor, and its resident memory in kB at its highest; its exit
- *                                   status is the command's
+ *                                   status is the command's. Each run has the same addresses: how much of a
+ *                                   library the system maps beside what is used depends on where it lies
  *     volumes replay LIST FILE      makes on a file the calls of a list, a line each, with bytes of no
  *                                   meaning, and writes the same of that, with 0 for the memory
  *
- * The lines of a list: `read PLACE COUNT`, `write PLACE COUNT`, `length COUNT`, `sync` for fsync, and `datasync` for
- * fdatasync. */
+ * What wait4 tells of the memory misses up to a tenth of a megabyte: the system counts pages by processor, and adds
+ * them up later. It adds them for /proc/PID/status, which is read as the command exits.
+ *
+ * The lines of a list: `read PLACE COUNT`, `take COUNT` for a read of standard input, `write PLACE COUNT`,
+ * `length COUNT`, `sync` for fsync, and `datasync` for fdatasync. */
 #define _GNU_SOURCE
 #include <fcntl.h>
+#include <signal.h>
 #include <stdio.h>
 #include <stdlib.h>
 #include <string.h>
+#include <sys/personality.h>
+#include <sys/ptrace.h>
 #include <sys/resource.h>
 #include <sys/wait.h>
 #include <time.h>
@@ -20,7 +27,7 @@
 
 enum { LONGEST = 1 << 20 };
 
-enum kind { READ, WRITE, LENGTH, SYNC, DATASYNC };
+enum kind { READ, TAKE, WRITE, LENGTH, SYNC, DATASYNC };
 
 struct call {
     enum kind kind;
@@ -46,22 +53,49 @@ static void fail(const char *what)
     exit(1);
 }
 
+/* The most memory that a process had, in kB, where it exits. */
+static long highest(pid_t process)
+{
+    char path[64], line[256];
+    long kilobytes = 0;
+    snprintf(path, sizeof path, "/proc/%d/status", process);
+    FILE *told = fopen(path, "r");
+    if (told == NULL)
+        return 0;
+    while (fgets(line, sizeof line, told) != NULL && sscanf(line, "VmHWM: %ld", &kilobytes) != 1)
+        ;
+    fclose(told);
+    return kilobytes;
+}
+
 static int run(char **words)
 {
     struct rusage usage;
-    int status;
+    int status, exits = SIGTRAP | PTRACE_EVENT_EXIT << 8;
+    long most = 0;
     double start = now();
     pid_t child = fork();
     if (child < 0)
         fail("fork");
     if (child == 0) {
         close(3);
+        personality(ADDR_NO_RANDOMIZE);
+        ptrace(PTRACE_TRACEME, 0, NULL, NULL);
         execvp(words[0], words);
         fail(words[0]);
     }
-    if (wait4(child, &status, 0, &usage) < 0)
-        fail("wait4");
-    dprintf(3, "%.6f %.6f %ld\n", now() - start, used(&usage), usage.ru_maxrss);
+    /* It stops first behind its exec. */
+    for (int is_first = 1; wait4(child, &status, 0, &usage) == child && WIFSTOPPED(status); is_first = 0) {
+        int stopped_by = WSTOPSIG(status);
+        if (is_first && ptrace(PTRACE_SETOPTIONS, child, NULL, PTRACE_O_TRACEEXIT | PTRACE_O_EXITKILL) < 0)
+            fail("ptrace");
+        if (status >> 8 == exits)
+            most = highest(child);
+        ptrace(PTRACE_CONT, child, NULL, stopped_by == SIGTRAP ? 0 : stopped_by);
+    }
+    if (usage.ru_maxrss > most)
+        most = usage.ru_maxrss;
+    dprintf(3, "%.6f %.6f %ld\n", now() - start, used(&usage), most);
     return WIFEXITED(status) ? WEXITSTATUS(status) : 1;
 }
 
@@ -83,6 +117,8 @@ static struct call *read_calls(const char *path, long *count)
         struct call *call = calls + *count;
         if (sscanf(line, "read %ld %ld", &call->place, &call->count) == 2 && call->count <= LONGEST)
             call->kind = READ;
+        else if (sscanf(line, "take %ld", &call->count) == 1 && call->count <= LONGEST)
+            call->kind = TAKE;
         else if (sscanf(line, "write %ld %ld", &call->place, &call->count) == 2 && call->count <= LONGEST)
             call->kind = WRITE;
         else if (sscanf(line, "length %ld", &call->count) == 1)
@@ -105,6 +141,8 @@ static int make(int file, const struct call *call, unsigned char *bytes)
     switch (call->kind) {
     case READ:
         return pread(file, bytes, call->count, call->place) < 0 ? -1 : 0;
+    case TAKE:
+        return read(0, bytes, call->count) < 0 ? -1 : 0;
     case WRITE:
         return pwrite(file, bytes, call->count, call->place) == call->count ? 0 : -1;
     case LENGTH:

@@ -1,8 +1,8 @@
 #!/usr/bin/env bash
 # Times format, append and restore of one volume on a cartridge of 100 segments per track, a file on a disk and
-# one in memory: beside the bare writes and syncs of the same places in the same order, beside cp of the image,
-# and beside tar into a file with one sync. Restore also with three lost sectors in each segment of the volume, and
-# check of the same images.
+# one in memory: beside the bare writes and syncs of the same places in the same order, an append also beside
+# these and its reads, beside cp of the image, and beside tar into a file with one sync. Restore also with three
+# lost sectors in each segment of the volume, and check of the same images.
 # And upgrade of an image of version 1 with that volume, beside cp of it with one sync.
 #
 #     bench/volumes.sh [RUNS [BYTES [FOLDER ..]]]
@@ -64,6 +64,16 @@ listed() {
         -e 's/^fsync\(.*/sync/p' -e 's/^fdatasync\(.*/datasync/p' "$base/calls.$1" > "$base/list.$1"
 }
 
+# The reads among them, too: those of the image, and of the input.
+listed_whole() {
+    sed -nE -e 's/^[0-9]+ +//' \
+        -e 's/^pread64\([0-9]+, "[^"]*"(\.\.\.)?, ([0-9]+), ([0-9]+)\).*/read \3 \2/p' \
+        -e 's/^read\(0, "[^"]*"(\.\.\.)?, ([0-9]+)\).*/take \2/p' \
+        -e 's/^pwrite64\([0-9]+, "[^"]*"(\.\.\.)?, ([0-9]+), ([0-9]+)\).*/write \3 \2/p' \
+        -e 's/^ftruncate\([0-9]+, ([0-9]+)\).*/length \1/p' \
+        -e 's/^fsync\(.*/sync/p' -e 's/^fdatasync\(.*/datasync/p' "$base/calls.$1" > "$base/list.$1_whole"
+}
+
 # The reads of the image among them.
 read_list() {
     sed -nE -e 's/^[0-9]+ +//' \
@@ -102,6 +112,7 @@ truncate -s 92019264 "$base/old.img"
 "$program" "$base/old.img" append v < "$base/input" >/dev/null
 listed format
 listed append
+listed_whole append
 read_list restore
 
 echo 'The calls of each command:'
@@ -128,6 +139,7 @@ round() {
     fresh blank.img; bare format
     fresh formatted.img; timed append "$program" "$room/image" append v < "$room/input"
     fresh formatted.img; bare append
+    fresh formatted.img; bare append_whole < "$room/input"
     fresh whole.img; timed restore "$program" "$room/image" restore 1
     bare restore
     timed check "$program" "$room/image" check
@@ -157,6 +169,13 @@ of_bare() {
         }'
 }
 
+# A command's seconds as times of those of its bare calls and its reads.
+of_whole() {
+    awk -v ours="$(median "$1" 1)" -v bare="$(median "bare_$1_whole" 1)" 'BEGIN {
+        printf "%-32s %41s bare %9.3f s, ratio %.2f\n", "  beside its reads, too", "", bare, ours / bare
+    }'
+}
+
 of_bytes() {
     awk -v ours="$(median "$1" 1)" -v used="$(median "$1" 2)" -v bytes="$2" -v memory="$(memory "$1")" -v name="$3" \
         'BEGIN {
@@ -179,6 +198,7 @@ for folder in "${folders[@]}"; do
     echo "$folder${ahead:+, where the system reads ahead by $ahead kB}:"
     of_bare format
     of_bare append
+    of_whole append
     of_bare upgrade
     of_bytes restore "$bytes" restore
     of_bytes bare_restore "$bytes" '  its reads alone'
