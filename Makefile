@@ -5,7 +5,7 @@
 #   make check        the gate: docs/GATE.md
 #   make clean        removes all that make made
 #
-# As many crates are proved side by side as there are processors, and 3 GB of free memory for each; make -j 2 proves two. What was
+# Crates are proved side by side, two for each processor and 3 GB of free memory for each of them; make -j 2 proves two. What was
 # proved is kept, so a build that was broken off goes on where it was. A crate is proved again where a sum of all that its proof
 # reads has changed: the kit's version, its files, what its line of crates.txt names, and what was made of those crates. It is kept
 # outside the checkout, since the gate refuses a file of code below it that no crate has, as those of a library are.
