@@ -4,7 +4,7 @@ use qic_base::Name;
 
 /// A command with its values. Segments, sectors, volumes and counts are numbers up to 999,999,999; a date is a date
 /// word, and 0 where none is given.
-#[derive(Clone, Copy, Debug, PartialEq, Eq)]
+#[derive(Clone, Copy, PartialEq, Eq)]
 pub enum Words {
     /// A new cartridge, with 3 to `LONGEST` segments per track.
     New { segments: u16 },

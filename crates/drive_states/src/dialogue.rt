@@ -17,7 +17,7 @@ ghost use Rattle.drive_states.specs.Reach.{IsFormatting, Formats};
 ghost use Rattle.drive_states.specs.Unreferenced.{without_reference};
 
 use crate::any_drive::AnyDrive;
-use crate::deck::{ends_early, is_streaming, refusal};
+use crate::deck::{ends_early, is_seeking, is_streaming, refusal};
 use crate::effects::error_word;
 use crate::fault::FdcFault;
 use crate::under_way::{admits, begun, fault, is_whole, longer, report_width};
@@ -41,6 +41,15 @@ fn ticked<T: Tape>(drive: AnyDrive<T>, _: ()) -> (AnyDrive<T>, ())
     ensures { drive_of result.0 ≡ record (drive_of drive) { deck = ticked (drive_of drive).deck } }
 {
     (drive.tick(), ())
+}
+
+/// A gap of the drive's seek. Only a drive that seeks is moved, by value; in most gaps it stands.
+fn tick<T: Tape>(drive: &mut AnyDrive<T>)
+    ensures { drive_of drive.new ≡ record (drive_of drive.old) { deck = ticked (drive_of drive.old).deck } }
+{
+    if is_seeking(&drive.deck()) {
+        replace_with(drive, (), ticked);
+    }
 }
 
 fn was_reset<T: Tape>(drive: AnyDrive<T>, _: ()) -> (AnyDrive<T>, ())
@@ -223,7 +232,7 @@ impl<T: Tape> Dialogue<T> {
         ensures over { OnErr result (self.new.under_way ≡ UnderWay.Nothing) }
         ensures size { T.means.size (unit_of self.new).tape ≡ T.means.size (unit_of self.old).tape }
     {
-        replace_with(&mut self.drive, (), ticked);
+        tick(&mut self.drive);
         let train = replace(&mut self.train, 0);
         if train == 0 {
             self.idle();

@@ -2,7 +2,7 @@
 
 /// Why the drive refuses a sector call: the first that holds is answered. A call that the tape failed in answers that
 /// instead, so its answer is a result within a result.
-#[derive(Clone, Copy, Debug, PartialEq, Eq)]
+#[derive(Clone, Copy, PartialEq, Eq)]
 pub enum FdcFault {
     /// The mode has no such call, the tape does not stream, the address is not that of a sector of the segment under
     /// the head that the head has not passed, or that sector was never formatted.

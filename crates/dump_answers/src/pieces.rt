@@ -12,7 +12,7 @@ use dump_reader::{Cursor, KnownDump};
 use qic_base::{LostSet, SECTORS};
 
 /// How many pieces a dump has, and how many sectors the masks of their segments leave out.
-#[derive(Clone, Copy, Debug, Drop)]
+#[derive(Clone, Copy, Drop)]
 pub(crate) struct PieceCounts {
     pub pieces: u32,
     pub bad: u32,

@@ -94,7 +94,7 @@ fn asked_size(masks: &[u32], table: u16, volume: &Volume, whole: bool) -> u64
 }
 
 /// The volume that is asked for.
-#[derive(Clone, Copy, Debug, Drop)]
+#[derive(Clone, Copy, Drop)]
 pub(crate) struct AskedVolume {
     /// Counted from 1.
     pub number: u32,

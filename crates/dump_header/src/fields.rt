@@ -8,7 +8,7 @@ ghost use Rattle.dump_header.specs.Shown.{ShowsFields, as_told, told_of};
 use qic_base::{ForeignField, Name, Sector, read_u16, read_u32};
 
 /// The fields of a header whose values are taken (Linux ftape headers).
-#[derive(Clone, Copy, Debug, PartialEq, Eq)]
+#[derive(Clone, Copy)]
 pub struct DumpHeader {
     /// 2 to 6.
     pub format_code: u8,
@@ -27,7 +27,7 @@ pub struct DumpHeader {
 }
 
 /// A field of a header, and the value in it that is not taken.
-#[derive(Clone, Copy, Debug, PartialEq, Eq)]
+#[derive(Clone, Copy)]
 pub struct ForeignValue {
     pub field: ForeignField,
     pub value: u32,

@@ -7,14 +7,14 @@ use dump_spec::{Form, Status};
 use dump_volumes::ToldHeader;
 
 /// Why a dump was not opened: it is refused, or a read of one of the files failed.
-#[derive(Clone, Copy, Debug, Drop, PartialEq, Eq)]
+#[derive(Clone, Copy, Drop)]
 pub enum OpenError {
     Refused { status: Status },
     Input,
 }
 
 /// What is known of a dump, beside the sets and masks that lie in words.
-#[derive(Clone, Copy, Debug, Drop)]
+#[derive(Clone, Copy, Drop)]
 pub struct Opened {
     pub form: Form,
     /// How many bytes it has.
@@ -27,7 +27,7 @@ pub struct Opened {
 }
 
 /// A dump that was opened.
-#[derive(Clone, Copy, Debug)]
+#[derive(Clone, Copy)]
 pub struct OpenDump<'a> {
     pub known: KnownDump<'a>,
     /// Whether readable sectors of zero bytes count as lost in a segment that contradicts itself.

@@ -13,7 +13,7 @@ use dump_spec::{Asked, Status};
 use qic_base::{Disk, DiskFailed};
 
 /// How long a dump is, and where it begins.
-#[derive(Clone, Copy, Debug, Drop)]
+#[derive(Clone, Copy, Drop)]
 pub(crate) struct DumpSize {
     /// How many bytes it has.
     pub bytes: u64,

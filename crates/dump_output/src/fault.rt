@@ -1,7 +1,7 @@
 //! Why an output was cut off.
 
 /// Why an output of bytes was not put out to its end.
-#[derive(Clone, Copy, Debug, PartialEq, Eq)]
+#[derive(Clone, Copy, PartialEq, Eq)]
 pub enum PutFault {
     /// A read of the disk with the dump failed.
     Input,

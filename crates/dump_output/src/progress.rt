@@ -13,7 +13,7 @@ use segment_salvage::SegmentReading;
 use sure_map::SureMap;
 
 /// The map of the bytes that were put out, and how many are still to come.
-#[derive(Clone, Copy, Debug, Drop)]
+#[derive(Clone, Copy, Drop)]
 pub struct Progress {
     pub map: SureMap,
     pub left: u32,

@@ -11,7 +11,7 @@ use qic_base::SECTOR;
 
 /// A segment of a dump, and the first sector of its piece, counted from the dump's front: as many sectors as the pieces in
 /// front of it have.
-#[derive(Clone, Copy, Debug, PartialEq, Eq)]
+#[derive(Clone, Copy)]
 pub struct Cursor {
     pub segment: u32,
     pub start: u32,

@@ -11,7 +11,7 @@ use segment_salvage::data_sectors;
 
 /// What is known of a dump: its form and length, which of its sectors were rescued, and how its pieces lie, one behind the
 /// other in order of segment.
-#[derive(Clone, Copy, Debug)]
+#[derive(Clone, Copy)]
 pub struct KnownDump<'a> {
     pub form: Form,
     /// How many bytes it has.

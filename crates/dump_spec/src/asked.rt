@@ -3,7 +3,7 @@
 use crate::form::Form;
 
 /// What is to be told of a dump.
-#[derive(Clone, Copy, Debug, Drop, PartialEq, Eq)]
+#[derive(Clone, Copy, Debug, Drop)]
 pub enum Command {
     /// What the dump and its header are.
     Info,
@@ -18,7 +18,7 @@ pub enum Command {
 }
 
 /// A command, and how the dump is to be read.
-#[derive(Clone, Copy, Debug, Drop, PartialEq, Eq)]
+#[derive(Clone, Copy, Drop)]
 pub struct Asked {
     pub form: Form,
     /// The segment of the first piece of the dump, where it is given.

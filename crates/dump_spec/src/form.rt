@@ -1,7 +1,7 @@
 //! The forms of a dump.
 
 /// What a dump holds of each segment of a tape.
-#[derive(Clone, Copy, Debug, Drop, PartialEq, Eq)]
+#[derive(Clone, Copy, Drop, PartialEq, Eq)]
 pub enum Form {
     /// All 32 sectors, 32,768 bytes.
     Sectors,

@@ -1,7 +1,7 @@
 //! How sure a byte is.
 
 /// How sure a byte of the output is.
-#[derive(Clone, Copy, Debug, Drop, PartialEq, Eq)]
+#[derive(Clone, Copy, Drop, PartialEq, Eq)]
 pub enum Mark {
     /// It was read, and nothing speaks against it, or it was computed and checked.
     Sure,

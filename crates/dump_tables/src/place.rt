@@ -11,7 +11,7 @@ use qic_base::{Sector, read_u32};
 use volume_table::{SIGNATURE, slot_at};
 
 /// A table whose data stand at the front of a segment's sectors.
-#[derive(Clone, Copy, Debug, Drop, PartialEq, Eq)]
+#[derive(Clone, Copy, Drop)]
 pub struct TablePlace {
     /// The segment that it is in.
     pub segment: u16,

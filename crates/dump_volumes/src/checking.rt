@@ -11,7 +11,7 @@ use segment_salvage::Finding;
 use tape_script::{TextLine, number_text, place_text};
 
 /// What a check counted.
-#[derive(Clone, Copy, Debug, Drop)]
+#[derive(Clone, Copy, Drop)]
 pub struct CheckCounts {
     /// The segments that were looked at.
     pub segments: u32,

@@ -13,7 +13,7 @@ use qic_base::{Sink, SinkFailed, write_text};
 use tape_script::TextLine;
 
 /// The header of a dump.
-#[derive(Clone, Copy, Debug, Drop)]
+#[derive(Clone, Copy, Drop)]
 pub struct ToldHeader {
     /// Its fields.
     pub fields: DumpHeader,

@@ -8,7 +8,7 @@ use qic_base::read_u32;
 use volume_table::{Entry, entry_at};
 
 /// A volume of a dump's table. Its range may be bad.
-#[derive(Clone, Copy, Debug, Drop, PartialEq, Eq)]
+#[derive(Clone, Copy, Drop)]
 pub struct Volume {
     /// The first segment that carries it.
     pub start: u64,

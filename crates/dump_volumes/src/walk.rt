@@ -12,7 +12,7 @@ use qic_base::Sector;
 use volume_table::slot_at;
 
 /// A walk over the volumes of a table.
-#[derive(Clone, Copy, Debug, Drop)]
+#[derive(Clone, Copy, Drop)]
 pub struct VolumeWalk {
     counts: bool,
     slot: u8,

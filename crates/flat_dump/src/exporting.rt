@@ -12,7 +12,7 @@ use qic_base::{
 };
 
 /// Why a dump was not written to its end.
-#[derive(Clone, Copy, Debug, PartialEq, Eq)]
+#[derive(Clone, Copy, PartialEq, Eq)]
 pub enum ExportError {
     /// The tape holds no cartridge.
     NoCartridge,

@@ -22,14 +22,14 @@ const SEGMENT_LEN: u32 = 32_768;
 const TRACKS_LEN: u64 = 917_504;
 
 /// What a dump was imported as: a cartridge of so many segments, of whose sectors so many are lost.
-#[derive(Clone, Copy, Debug, PartialEq, Eq)]
+#[derive(Clone, Copy)]
 pub struct Imported {
     pub segments: u32,
     pub lost: u32,
 }
 
 /// Why a dump was not imported.
-#[derive(Clone, Copy, Debug, PartialEq, Eq)]
+#[derive(Clone, Copy)]
 pub enum ImportError {
     /// The dump has so many bytes, as many as no cartridge; `u64::MAX` stands for more.
     Length { bytes: u64 },

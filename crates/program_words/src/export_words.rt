@@ -8,7 +8,7 @@ use clap::Error;
 use std::alloc::Global;
 
 /// The path of the image, and that of the map where one is asked for.
-#[derive(Clone, Copy, Debug)]
+#[derive(Clone, Copy)]
 pub struct ExportWords<'a> {
     pub image: &'a str,
     pub map: Option<&'a str>,

@@ -8,7 +8,7 @@ use clap::error::ErrorKind;
 use std::alloc::Global;
 
 /// Why words gave no gap.
-#[derive(Clone, Copy, Debug, PartialEq, Eq)]
+#[derive(Clone, Copy, PartialEq, Eq)]
 pub enum BadGap {
     /// They are not among those that the command takes.
     Refused,
@@ -16,7 +16,7 @@ pub enum BadGap {
     NoMemory,
 }
 
-fn is_memory(kind: ErrorKind) -> bool
+pub(crate) fn is_memory(kind: ErrorKind) -> bool
     ensures { IsTrue result ↔ (kind ≡ ErrorKind.OutOfMemory) }
 {
     matches!(kind, ErrorKind::OutOfMemory)

@@ -8,7 +8,7 @@ use clap::Error;
 use std::alloc::Global;
 
 /// The path of the image, that of the map where there is one, and the segments per track, 3 to 246, where they are given.
-#[derive(Clone, Copy, Debug)]
+#[derive(Clone, Copy)]
 pub struct ImportWords<'a> {
     pub image: &'a str,
     pub map: Option<&'a str>,

@@ -9,8 +9,10 @@ mod export_words;
 mod gap;
 mod import_words;
 mod option;
+mod refusal;
 
 pub use command_line::read_command_line;
 pub use export_words::{ExportWords, read_export_words};
 pub use gap::{BadGap, read_gap};
 pub use import_words::{ImportWords, read_import_words};
+pub use refusal::{Told, tell_refusal};

@@ -8,7 +8,7 @@ use qic117_commands::{Collector, Command, command_of};
 use tape_script::TextLine;
 
 /// What is awaited where a train comes, or a sample.
-#[derive(Debug, Drop)]
+#[derive(Drop)]
 pub enum Context {
     /// A command.
     Nothing,

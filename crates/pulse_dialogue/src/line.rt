@@ -9,7 +9,7 @@ use qic_base::{Source, SourceFailed};
 use tape_script::{Taken, read_number, take_line};
 
 /// A line: a pulse, or a sample of the level of the track-0 line. The time is in microseconds, at most 999,999,999.
-#[derive(Clone, Copy, Debug, PartialEq, Eq)]
+#[derive(Clone, Copy, PartialEq, Eq)]
 pub enum Line {
     Pulse { time: u32 },
     Sample { time: u32, level: bool },
@@ -17,7 +17,7 @@ pub enum Line {
 
 /// What was read in a line's place: the end of the source before any byte; bytes that are no line; or a line, with the
 /// number of bytes that it took, its newline counted.
-#[derive(Clone, Copy, Debug, PartialEq, Eq)]
+#[derive(Clone, Copy)]
 pub enum LineRead {
     End,
     Bad,

@@ -14,7 +14,7 @@ use tape_script::TextLine;
 
 /// A train that the next pulse may continue: the times of its first pulse and of its last, and the number of its
 /// pulses.
-#[derive(Clone, Copy, Debug)]
+#[derive(Clone, Copy)]
 pub struct OpenTrain {
     pub first: u32,
     pub last: u32,
@@ -23,7 +23,7 @@ pub struct OpenTrain {
 
 /// What is kept of the lines so far: the gap, the time of the last line, the train that it may belong to, and the
 /// context before that train.
-#[derive(Debug, Drop)]
+#[derive(Drop)]
 pub struct Teller {
     pub gap: u32,
     pub time: u32,

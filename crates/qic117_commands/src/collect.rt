@@ -7,7 +7,7 @@ use std::marker::Model;
 
 /// Collects the levels that follow the acknowledgement of a report (QIC-117). Contracts see its width
 /// and the levels that it took.
-#[derive(Debug, Drop)]
+#[derive(Drop)]
 pub struct Collector {
     width: u8,
     /// How many levels it took, at most `width + 1`.

@@ -5,7 +5,7 @@ ghost use Rattle.qic117_commands.specs.Codes.{code_of};
 ghost use Rattle.qic117_commands.specs.Names.{text_of};
 
 /// Why the drive latched an error, or `NoError` for none (QIC-117).
-#[derive(Clone, Copy, PartialEq, Eq, Debug)]
+#[derive(Clone, Copy, PartialEq, Eq)]
 pub enum ErrorCode {
     NoError = 0,
     NotReady = 1,

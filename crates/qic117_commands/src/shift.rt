@@ -15,7 +15,7 @@ pub enum Shown {
 }
 
 /// A report under way. Contracts see the levels that it has still to show, after the acknowledgement.
-#[derive(Debug, Drop)]
+#[derive(Drop)]
 pub struct Shifter {
     /// The digits still to show, the next one lowest.
     digits: u16,

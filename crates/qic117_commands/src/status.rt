@@ -7,7 +7,7 @@ use crate::view::{DriveView, Motion};
 use bitflags::{Flag, Flags, bitflag_items};
 
 /// The bits of the status word (QIC-117).
-#[derive(Clone, Copy, PartialEq, Eq, Debug)]
+#[derive(Clone, Copy)]
 pub struct StatusBits(u8);
 
 bitflag_items! {

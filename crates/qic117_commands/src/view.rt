@@ -1,7 +1,7 @@
 //! What refusals and the status word read of a drive.
 
 /// The mode that the drive is in (QIC-117).
-#[derive(Clone, Copy, PartialEq, Eq, Debug)]
+#[derive(Clone, Copy, PartialEq, Eq)]
 pub enum Mode {
     Primary,
     Format,
@@ -9,7 +9,7 @@ pub enum Mode {
 }
 
 /// How the tape moves: not at all, forward over the segments, or to a place that the head seeks.
-#[derive(Clone, Copy, PartialEq, Eq, Debug)]
+#[derive(Clone, Copy, PartialEq, Eq)]
 pub enum Motion {
     Stopped,
     Streaming,
@@ -17,7 +17,7 @@ pub enum Motion {
 }
 
 /// What the drive's answer to a command rests on.
-#[derive(Clone, Copy, PartialEq, Eq, Debug)]
+#[derive(Clone, Copy)]
 pub struct DriveView {
     /// A cartridge is in the drive.
     pub present: bool,

@@ -23,7 +23,7 @@ fn put_in(sectors: &mut [Sector], sector: u8, from: &Sector)
     sectors[usize::from(sector)] = *from;
 }
 
-/// Puts them into its entry of 32; they are what is written where the set names that sector alone.
+/// Puts a sector's bytes into its entry of 32: they are what is written where the set names that sector alone.
 fn put_alone(sectors: &mut [Sector; 32], sector: u8, from: &Sector)
     requires { sector < 32 }
     ensures { chosen (2 ^ sector) sectors.new ≡ record { sector = sector; bytes = from.now } ∷ [] }

@@ -26,7 +26,7 @@ pub struct TapeInfo {
 
 /// What a sector is: never formatted; never readable, whatever is written; formatted, and not readable now; or
 /// readable, with its 1,024 bytes.
-#[derive(Clone, Copy, Debug, PartialEq, Eq)]
+#[derive(Clone, Copy)]
 pub enum SectorView {
     Blank,
     Defect,

@@ -6,7 +6,7 @@ ghost use Rattle.qic_mem.specs.Plan.{new_plan, IsChosen, counted, plan_after};
 use std::marker::Model;
 
 /// Which calls of an object are to fail, and how many calls and faults there were.
-#[derive(Debug, Drop)]
+#[derive(Drop)]
 pub(crate) struct CallPlan {
     fails: Vec<u64>,
     calls: u64,

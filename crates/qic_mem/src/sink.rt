@@ -12,7 +12,7 @@ use std::alloc::Global;
 use std::marker::Model;
 
 /// A sink of bytes in memory, whose chosen calls fail.
-#[derive(Debug, Drop)]
+#[derive(Drop)]
 pub struct MemSink {
     buffer: Vec<u8>,
     len: usize,

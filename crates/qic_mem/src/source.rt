@@ -12,7 +12,7 @@ use qic_base::{Source, SourceFailed};
 use std::marker::Model;
 
 /// Bytes, and how many of them were read.
-#[derive(Debug, Drop)]
+#[derive(Drop)]
 struct Reader {
     bytes: Vec<u8>,
     at: usize,
@@ -50,7 +50,7 @@ impl Reader {
 }
 
 /// A source of bytes in memory, whose chosen calls fail.
-#[derive(Debug, Drop)]
+#[derive(Drop)]
 pub struct MemSource {
     reader: Reader,
     plan: CallPlan,
@@ -112,7 +112,7 @@ impl Source for MemSource {
 }
 
 /// A source of bytes in memory whose reads never fail.
-#[derive(Debug, Drop)]
+#[derive(Drop)]
 pub struct SureSource {
     reader: Reader,
 }

@@ -7,7 +7,7 @@ ghost use Rattle.qic_base.specs.SinkCalls.{Takes};
 use qic_base::{Sink, SinkFailed};
 
 /// A sink that takes all bytes and keeps none of them.
-#[derive(Debug, Drop)]
+#[derive(Drop)]
 pub struct SureSink;
 
 impl SureSink {

@@ -10,7 +10,7 @@ use crate::spelling::{GREATEST, Word};
 use crate::words::LineWords;
 
 /// A part of a medium: its first byte, its length in bytes, and the mark that says how it went. `+` is rescued.
-#[derive(Clone, Copy, Debug, PartialEq, Eq)]
+#[derive(Clone, Copy)]
 pub struct Block {
     pub start: u64,
     pub size: u64,

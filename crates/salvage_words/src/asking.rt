@@ -16,7 +16,7 @@ use dump_spec::{Asked, Command, Form};
 use std::alloc::Global;
 
 /// The files that the words name, and what is asked of the dump.
-#[derive(Clone, Copy, Debug)]
+#[derive(Clone, Copy)]
 pub struct SalvageWords<'a> {
     pub dump: &'a str,
     pub map: Option<&'a str>,
@@ -28,7 +28,7 @@ pub struct SalvageWords<'a> {
 }
 
 /// Why words ask for nothing.
-#[derive(Debug, Drop)]
+#[derive(Drop)]
 pub enum Refusal {
     /// `clap` refuses them, by a text that tells why, or shows the page of usage that they ask for; or, where its kind is
     /// `OutOfMemory`, there was no memory to read them.

@@ -4,7 +4,7 @@ ghost use Rattle.std.specs.Prelude.{◌≡◌};
 ghost use Rattle.segment_salvage.specs.Found.{has_block};
 
 /// What is found of the cells of a segment, of which some are lost.
-#[derive(Clone, Copy, Debug, Drop, PartialEq, Eq)]
+#[derive(Clone, Copy, Drop)]
 pub enum SegmentCase {
     /// At most three cells are lost, and a code block agrees with the others.
     OneBlock,

@@ -13,7 +13,7 @@ use dump_spec::Form;
 use qic_base::{LostSet, Sector};
 
 /// What a check finds of a segment; sectors are counted with the parity, but in the form of data.
-#[derive(Clone, Copy, Debug, Drop, PartialEq, Eq)]
+#[derive(Clone, Copy, Drop)]
 pub enum Finding {
     Well,
     /// It reads, and so many sectors are lost, 1 to 3.

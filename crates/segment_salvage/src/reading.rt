@@ -14,7 +14,7 @@ use qic_base::{LostSet, Sector};
 
 /// What was found of a segment's cells, and the places of those that are lost, 0 to 31, counted over its usable sectors. In
 /// the form of data the lost ones are those of data.
-#[derive(Clone, Copy, Debug, Drop, PartialEq, Eq)]
+#[derive(Clone, Copy, Drop)]
 pub struct SegmentReading {
     pub case: SegmentCase,
     pub lost: LostSet,

@@ -13,7 +13,7 @@ const HEAD: &str = "# Mapfile. Created by tape_salvage
 ";
 
 /// The map of the bytes that came so far. The line of their last run is not written yet.
-#[derive(Clone, Copy, Debug, Drop)]
+#[derive(Clone, Copy, Drop)]
 pub struct SureMap {
     run: Run,
     tally: Tally,

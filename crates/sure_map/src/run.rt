@@ -9,7 +9,7 @@ use dump_spec::Mark;
 use rescue_map::{Block, block_line};
 
 /// A run of bytes with one mark.
-#[derive(Clone, Copy, Debug, Drop)]
+#[derive(Clone, Copy, Drop)]
 pub struct Run {
     /// The place of its first byte.
     pub start: u32,

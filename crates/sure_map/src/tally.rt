@@ -6,7 +6,7 @@ ghost use Rattle.sure_map.specs.Counts.{total, counted, IsMore};
 use dump_spec::Mark;
 
 /// How many bytes have each mark.
-#[derive(Clone, Copy, Debug, Drop)]
+#[derive(Clone, Copy, Drop)]
 pub struct Tally {
     pub sure: u32,
     pub unchecked: u32,

@@ -12,7 +12,7 @@ mod status;
 use cart_image::ImageTape;
 use file_hints::{HintLine, failure_line, refusal_line};
 use file_streams::FileSink;
-use program_words::{ExportWords, read_command_line, read_export_words};
+use program_words::{ExportWords, Told, read_command_line, read_export_words, tell_refusal};
 use qic_base::{MOST_SEGMENTS, NoMemory, write_text};
 use run::{export_files, unread};
 use status::ExportStatus;
@@ -33,21 +33,11 @@ fn main(rt: HostRuntime) -> ExitCode {
 fn run_over_words(rt: &HostRuntime, words: &Vec<String>) -> u8 {
     match read_export_words(rt.alloc(), words) {
         Ok(asked) => run_over_files(rt, asked),
-        Err(error) => refuse_words(rt, &error),
-    }
-}
-
-/// Prints why the words are refused, or the page of usage, and answers the exit status.
-fn refuse_words(rt: &HostRuntime, error: &clap::Error) -> u8 {
-    if matches!(error.kind(), clap::error::ErrorKind::OutOfMemory) {
-        return finish(rt, ExportStatus::NoMemory);
-    }
-    // The exit status tells it, too, where the streams can't.
-    let _printed = error.print(rt);
-    if error.use_stderr() {
-        ExportStatus::Usage.code()
-    } else {
-        ExportStatus::Done.code()
+        Err(error) => match tell_refusal(rt, &error) {
+            Told::NoMemory => finish(rt, ExportStatus::NoMemory),
+            Told::Mistake => ExportStatus::Usage.code(),
+            Told::Page => ExportStatus::Done.code(),
+        },
     }
 }
 

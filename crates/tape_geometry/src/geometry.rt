@@ -21,12 +21,12 @@ pub struct FloppyAddr {
 }
 
 /// A number of segments per track that no cartridge has.
-#[derive(Clone, Copy, Debug, PartialEq, Eq)]
+#[derive(Clone, Copy)]
 pub struct BadLength;
 
 /// The length of a cartridge, 3 to `LONGEST` segments per track, and with it the numbers of its
 /// segments. Contracts see it as the segments per track.
-#[derive(Clone, Copy, Debug, PartialEq, Eq)]
+#[derive(Clone, Copy)]
 pub struct Geometry {
     segments_per_track: u16,
 }

@@ -10,7 +10,7 @@ mod status;
 
 use file_hints::{HintLine, failure_line, refusal_line};
 use file_streams::FileSource;
-use program_words::{ImportWords, read_command_line, read_import_words};
+use program_words::{ImportWords, Told, read_command_line, read_import_words, tell_refusal};
 use qic_base::write_text;
 use run::{run_import, unread};
 use status::{ImportStatus, write_status};
@@ -33,21 +33,11 @@ fn main(rt: HostRuntime) -> ExitCode {
 fn run_over_words(rt: &HostRuntime, words: &Vec<String>) -> u8 {
     match read_import_words(rt.alloc(), words) {
         Ok(asked) => run_over_files(rt, asked),
-        Err(error) => refuse_words(rt, &error),
-    }
-}
-
-/// Prints why the words are refused, or the page of usage, and answers the exit status.
-fn refuse_words(rt: &HostRuntime, error: &clap::Error) -> u8 {
-    if matches!(error.kind(), clap::error::ErrorKind::OutOfMemory) {
-        return finish(rt, ImportStatus::NoMemory);
-    }
-    // The exit status tells it, too, where the streams can't.
-    let _printed = error.print(rt);
-    if error.use_stderr() {
-        ImportStatus::Usage.code()
-    } else {
-        ImportStatus::Done.code()
+        Err(error) => match tell_refusal(rt, &error) {
+            Told::NoMemory => finish(rt, ImportStatus::NoMemory),
+            Told::Mistake => ImportStatus::Usage.code(),
+            Told::Page => ImportStatus::Done.code(),
+        },
     }
 }
 

@@ -9,7 +9,7 @@ use itoa::Buffer;
 use qic_base::{Sink, SinkFailed, write_text};
 
 /// How a run ended.
-#[derive(Clone, Copy, Debug, PartialEq, Eq)]
+#[derive(Clone, Copy)]
 pub enum ImportStatus {
     /// The image is that of the dump.
     Done,

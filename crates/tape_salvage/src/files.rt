@@ -19,7 +19,7 @@ pub struct OpenFiles {
 }
 
 /// Which file of a run can't be opened, and why.
-#[derive(Clone, Copy, Debug)]
+#[derive(Clone, Copy)]
 pub struct Unopened<'a> {
     pub file: OpenedFile,
     pub path: &'a str,

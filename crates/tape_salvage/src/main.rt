@@ -17,7 +17,7 @@ use ended::{make_ending, unread, write_ending};
 use file_hints::{HintLine, failure_line, refusal_line};
 use file_streams::FileSource;
 use files::{OpenFiles, Unopened, open_files, refusal};
-use program_words::read_command_line;
+use program_words::{Told, read_command_line, tell_refusal};
 use qic_base::write_text;
 use run::salvage_files;
 use salvage_words::{Refusal, SalvageWords, read_salvage_words};
@@ -37,22 +37,12 @@ fn main(rt: HostRuntime) -> ExitCode {
 fn run_over_words(rt: &HostRuntime, words: &Vec<String>) -> u8 {
     match read_salvage_words(rt.alloc(), words) {
         Ok(asked) => run_over_files(rt, asked),
-        Err(Refusal::Words(error)) => refuse_words(rt, &error),
+        Err(Refusal::Words(error)) => match tell_refusal(rt, &error) {
+            Told::NoMemory => finish(rt, make_ending(Status::NoMemory)),
+            Told::Mistake => exit_status(&Status::Usage),
+            Told::Page => exit_status(&Status::Done),
+        },
         Err(Refusal::NoCommand) => finish(rt, make_ending(Status::Usage)),
-    }
-}
-
-/// Prints why the words are refused, or the page of usage, and answers the exit status.
-fn refuse_words(rt: &HostRuntime, error: &clap::Error) -> u8 {
-    if matches!(error.kind(), clap::error::ErrorKind::OutOfMemory) {
-        return finish(rt, make_ending(Status::NoMemory));
-    }
-    // The exit status tells it, too, where the streams can't.
-    let _printed = error.print(rt);
-    if error.use_stderr() {
-        exit_status(&Status::Usage)
-    } else {
-        exit_status(&Status::Done)
     }
 }
 
