@@ -5,7 +5,8 @@
  *                                   status is the command's. Each run has the same addresses: how much of a
  *                                   library the system maps beside what is used depends on where it lies
  *     volumes replay LIST FILE      makes on a file the calls of a list, a line each, with bytes of no
- *                                   meaning, and writes the same of that, with 0 for the memory
+ *                                   meaning, and writes the same of that, with 0 for the memory. The start
+ *                                   of the process counts in a command's seconds, and not in these
  *
  * What wait4 tells of the memory misses up to a tenth of a megabyte: the system counts pages by processor, and adds
  * them up later. It adds them for /proc/PID/status, which is read as the command exits.

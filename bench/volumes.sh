@@ -1,9 +1,9 @@
 #!/usr/bin/env bash
 # Times format, append and restore of one volume on a cartridge of 100 segments per track, a file on a disk and
-# one in memory: beside the bare writes and syncs of the same places in the same order, an append also beside
-# these and its reads, beside cp of the image, and beside tar into a file with one sync. Restore also with three
-# lost sectors in each segment of the volume, and check of the same images.
-# And upgrade of an image of version 1 with that volume, beside cp of it with one sync.
+# one in memory: beside the bare calls that the command makes of its image and its input, of the same places in the
+# same order, beside its writes and syncs alone, beside cp of the image, and beside tar into a file with one sync.
+# Restore also with three lost sectors in each segment of the volume, and check of the same images. And upgrade of
+# an image of version 1 with that volume, beside cp of it with one sync.
 #
 #     bench/volumes.sh [RUNS [BYTES [FOLDER ..]]]
 #
@@ -56,28 +56,19 @@ traced() {
         "$program" "${@:2}"
 }
 
-# The writes and syncs among them, for the helper.
+# The calls of the image and of the input among them, for the helper.
 listed() {
-    sed -nE -e 's/^[0-9]+ +//' \
-        -e 's/^pwrite64\([0-9]+, "[^"]*"(\.\.\.)?, ([0-9]+), ([0-9]+)\).*/write \3 \2/p' \
-        -e 's/^ftruncate\([0-9]+, ([0-9]+)\).*/length \1/p' \
-        -e 's/^fsync\(.*/sync/p' -e 's/^fdatasync\(.*/datasync/p' "$base/calls.$1" > "$base/list.$1"
-}
-
-# The reads among them, too: those of the image, and of the input.
-listed_whole() {
     sed -nE -e 's/^[0-9]+ +//' \
         -e 's/^pread64\([0-9]+, "[^"]*"(\.\.\.)?, ([0-9]+), ([0-9]+)\).*/read \3 \2/p' \
         -e 's/^read\(0, "[^"]*"(\.\.\.)?, ([0-9]+)\).*/take \2/p' \
         -e 's/^pwrite64\([0-9]+, "[^"]*"(\.\.\.)?, ([0-9]+), ([0-9]+)\).*/write \3 \2/p' \
         -e 's/^ftruncate\([0-9]+, ([0-9]+)\).*/length \1/p' \
-        -e 's/^fsync\(.*/sync/p' -e 's/^fdatasync\(.*/datasync/p' "$base/calls.$1" > "$base/list.$1_whole"
+        -e 's/^fsync\(.*/sync/p' -e 's/^fdatasync\(.*/datasync/p' "$base/calls.$1" > "$base/list.$1"
 }
 
-# The reads of the image among them.
-read_list() {
-    sed -nE -e 's/^[0-9]+ +//' \
-        -e 's/^pread64\([0-9]+, "[^"]*"(\.\.\.)?, ([0-9]+), ([0-9]+)\).*/read \3 \2/p' "$base/calls.$1" > "$base/list.$1"
+# The writes and syncs among these.
+listed_writes() {
+    grep -v -e '^read' -e '^take' "$base/list.$1" > "$base/list.$1_writes"
 }
 
 counted() {
@@ -111,9 +102,10 @@ truncate -s 92019264 "$base/old.img"
 "$program" "$base/old.img" format L >/dev/null
 "$program" "$base/old.img" append v < "$base/input" >/dev/null
 listed format
+listed_writes format
 listed append
-listed_whole append
-read_list restore
+listed_writes append
+listed restore
 
 echo 'The calls of each command:'
 for name in format append restore; do counted $name; done
@@ -137,9 +129,10 @@ bare() {
 round() {
     fresh blank.img; timed format "$program" "$room/image" format L
     fresh blank.img; bare format
+    fresh blank.img; bare format_writes
     fresh formatted.img; timed append "$program" "$room/image" append v < "$room/input"
-    fresh formatted.img; bare append
-    fresh formatted.img; bare append_whole < "$room/input"
+    fresh formatted.img; bare append < "$room/input"
+    fresh formatted.img; bare append_writes
     fresh whole.img; timed restore "$program" "$room/image" restore 1
     bare restore
     timed check "$program" "$room/image" check
@@ -169,10 +162,10 @@ of_bare() {
         }'
 }
 
-# A command's seconds as times of those of its bare calls and its reads.
-of_whole() {
-    awk -v ours="$(median "$1" 1)" -v bare="$(median "bare_$1_whole" 1)" 'BEGIN {
-        printf "%-32s %41s bare %9.3f s, ratio %.2f\n", "  beside its reads, too", "", bare, ours / bare
+# A command's seconds as times of those of its writes and syncs.
+of_writes() {
+    awk -v ours="$(median "$1" 1)" -v bare="$(median "bare_$1_writes" 1)" 'BEGIN {
+        printf "%-32s %32s bare %9.3f s, ratio %.2f\n", "  its writes and syncs alone", "", bare, ours / bare
     }'
 }
 
@@ -197,11 +190,12 @@ for folder in "${folders[@]}"; do
     ahead=$(cat "/sys/class/bdi/$(stat -c '%Hd:%Ld' "$folder")/read_ahead_kb" 2>/dev/null || true)
     echo "$folder${ahead:+, where the system reads ahead by $ahead kB}:"
     of_bare format
+    of_writes format
     of_bare append
-    of_whole append
+    of_writes append
     of_bare upgrade
     of_bytes restore "$bytes" restore
-    of_bytes bare_restore "$bytes" '  its reads alone'
+    of_bytes bare_restore "$bytes" '  its bare calls'
     of_bytes restore_worn "$bytes" 'restore, three lost a segment'
     of_bytes check "$bytes" check
     of_bytes check_worn "$bytes" 'check, three lost a segment'

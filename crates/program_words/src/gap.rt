@@ -16,6 +16,7 @@ pub enum BadGap {
     NoMemory,
 }
 
+/// Whether words were not read for want of memory.
 pub(crate) fn is_memory(kind: ErrorKind) -> bool
     ensures { IsTrue result ↔ (kind ≡ ErrorKind.OutOfMemory) }
 {

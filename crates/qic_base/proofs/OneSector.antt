@@ -10,7 +10,8 @@ use Rattle.qic_base.proofs.Steps.{Tells-map}
 use Rattle.qic_base.specs.Cartridge.{lost_places, IsPlace, view_at}
 use Rattle.qic_base.specs.CartridgeTerms.{IsLost, is_lost}
 use Rattle.qic_base.specs.Tape.{Meaning}
-use Rattle.qic_base.specs.TapeCalls.{IsPlaceOf, Tells, chosen, AreBlank, Reads, ReadsSectors, is_blank, is_readable, write_answer}
+use Rattle.qic_base.specs.TapeCalls.{IsPlaceOf, Tells, chosen, AreBlank, Reads, ReadsSectors, bytes_read, is_blank, is_readable}
+use Rattle.qic_base.specs.TapeCalls.{write_answer}
 use Rattle.qic_base.specs.declared.tape.SectorRead.TheVariants as read
 use Rattle.qic_base.specs.declared.tape.SectorView.{SectorView}
 use Rattle.qic_base.specs.declared.tape.SectorView.TheVariants.{Blank, Defect, Lost, Holds}
@@ -73,6 +74,38 @@ found_lost place good blank view old new bytes within reads bad formed =
     (sym (wanted (is_readable (view place))) ∙ sym (reads.good_are place within) ∙ ne_eqb (good / 2 ^ place % 2) 1 bad)
     (sym (wanted (is_blank (view place))) ∙ sym (reads.blank_are place within) ∙ ne_eqb (blank / 2 ^ place % 2) 1 formed)
 
+held : (view : SectorView) (old bytes found : List ℕ) → is_readable view ≡ true → found ≡ bytes_read true view old →
+    Reads view bytes found read.Good
+held Blank old bytes found readable is = absurd (true≢false (sym readable))
+held Defect old bytes found readable is = absurd (true≢false (sym readable))
+held Lost old bytes found readable is = absurd (true≢false (sym readable))
+held (Holds own) old bytes found readable is = (refl, is)
+
+-- one that is good holds what its entry got
+found_good : (place good blank : ℕ) (view : ℕ → SectorView) (old new : List (List ℕ)) (bytes : List ℕ) → place < 32 →
+    ReadsSectors (2 ^ place) good blank view old new → IsLost good place →
+    Reads (view place) bytes (slice_index_or new place []) read.Good
+found_good place good blank view old new bytes within reads is =
+    let wanted : (b : Bool) → (is_lost (2 ^ place) place && b) ≡ b = λ b. ap (λ (w : Bool). w && b) (one_has place) in
+    held (view place) (slice_index_or old place []) bytes (slice_index_or new place [])
+    (sym (wanted (is_readable (view place))) ∙ sym (reads.good_are place within) ∙ eq-eqb (good / 2 ^ place % 2) 1 is)
+    (reads.bytes place within
+    ∙ ap (λ (w : Bool). bytes_read w (view place) (slice_index_or old place [])) (one_has place))
+
+bare : (view : SectorView) (bytes : List ℕ) → is_blank view ≡ true → Reads view bytes bytes read.Blank
+bare Blank bytes blank = (refl, refl)
+bare Defect bytes blank = absurd (true≢false (sym blank))
+bare Lost bytes blank = absurd (true≢false (sym blank))
+bare (Holds own) bytes blank = absurd (true≢false (sym blank))
+
+-- one that is blank was never formatted
+found_blank : (place good blank : ℕ) (view : ℕ → SectorView) (old new : List (List ℕ)) (bytes : List ℕ) → place < 32 →
+    ReadsSectors (2 ^ place) good blank view old new → IsLost blank place → Reads (view place) bytes bytes read.Blank
+found_blank place good blank view old new bytes within reads is =
+    bare (view place) bytes
+    (sym (ap (λ (w : Bool). w && is_blank (view place)) (one_has place)) ∙ sym (reads.blank_are place within)
+    ∙ eq-eqb (blank / 2 ^ place % 2) 1 is)
+
 taken : (view : SectorView) → is_blank view ≡ false → write.Taken ≡ write_answer view
 taken Blank formatted = absurd (true≢false formatted)
 taken Defect formatted = refl
@@ -105,6 +138,27 @@ tells_lost m s segment place set good blank old new bytes within one told bad fo
     (λ c. Reads (view_at c segment place) bytes bytes read.Lost)
     (λ c reads. found_lost place good blank (view_at c segment) old new bytes within
     (subst (λ (w : ℕ). ReadsSectors w good blank (view_at c segment) old new) one reads) bad formed) told
+
+pub tells_good : {S : Type 0} (m : Meaning S) (s : S) (segment place index set good blank : ℕ) (old new : List (List ℕ))
+    (bytes : List ℕ) → place < 32 → set ≡ 2 ^ place → index ≡ place →
+    Tells m s (λ c. ReadsSectors set good blank (view_at c segment) old new) → IsLost good place →
+    Tells m s (λ c. Reads (view_at c segment place) bytes (slice_index_or new index []) read.Good)
+tells_good m s segment place index set good blank old new bytes within one same told is =
+    Tells-map m s (λ c. ReadsSectors set good blank (view_at c segment) old new)
+    (λ c. Reads (view_at c segment place) bytes (slice_index_or new index []) read.Good)
+    (λ c reads. subst (λ (i : ℕ). Reads (view_at c segment place) bytes (slice_index_or new i []) read.Good) (sym same)
+    (found_good place good blank (view_at c segment) old new bytes within
+    (subst (λ (w : ℕ). ReadsSectors w good blank (view_at c segment) old new) one reads) is)) told
+
+pub tells_blank : {S : Type 0} (m : Meaning S) (s : S) (segment place set good blank : ℕ) (old new : List (List ℕ)) (bytes : List ℕ) →
+    place < 32 → set ≡ 2 ^ place →
+    Tells m s (λ c. ReadsSectors set good blank (view_at c segment) old new) → IsLost blank place →
+    Tells m s (λ c. Reads (view_at c segment place) bytes bytes read.Blank)
+tells_blank m s segment place set good blank old new bytes within one told is =
+    Tells-map m s (λ c. ReadsSectors set good blank (view_at c segment) old new)
+    (λ c. Reads (view_at c segment place) bytes bytes read.Blank)
+    (λ c reads. found_blank place good blank (view_at c segment) old new bytes within
+    (subst (λ (w : ℕ). ReadsSectors w good blank (view_at c segment) old new) one reads) is) told
 
 pub tells_taken : {S : Type 0} (m : Meaning S) (s : S) (segment place set blank : ℕ) → place < 32 → set ≡ 2 ^ place →
     Tells m s (λ c. AreBlank set blank (view_at c segment)) → ¬ (IsLost blank place) →

@@ -76,26 +76,59 @@ fn carry_out_blind<M: Memory + Drop, T: Tape, K: Sink>(
     ensures untouched { OnErr result ((unit.new ≡ unit.old) × (sink.new ≡ sink.old)) }
 {
     match *command {
-        Words::New { segments } => Ok(new::put_in_new(unit, segments, sink)),
-        Words::Defect { segment, sector } => Ok(defect::spoil(unit, segment, sector, sink)),
-        Words::Lose { segment, sector } => Ok(lose::lose(unit, segment, sector, sink)),
-        Words::Protect { on } => Ok(protect::protect(unit, on, sink)),
+        Words::New { .. }
+        | Words::Defect { .. }
+        | Words::Lose { .. }
+        | Words::Protect { .. }
+        | Words::Upgrade => Ok(carry_out_by_hand(command, unit, sink)),
+        _ => Ok(carry_out_in(memory.room()?, command, unit, sink)),
+    }
+}
+
+/// Carries out a command of a person's hand, which takes no memory.
+fn carry_out_by_hand<T: Tape, K: Sink>(command: &Words, unit: &mut Unit<T>, sink: &mut K) -> Status
+    requires values { HasValues command.now }
+    requires blind { (traits_of command.now).reads ≡ false }
+    requires bare { (traits_of command.now).memory ≡ false }
+    ensures { EndsBlind T.means K.means command.now
+        unit.old.tape unit.new.tape sink.old sink.new result }
+{
+    match *command {
+        Words::New { segments } => new::put_in_new(unit, segments, sink),
+        Words::Defect { segment, sector } => defect::spoil(unit, segment, sector, sink),
+        Words::Lose { segment, sector } => lose::lose(unit, segment, sector, sink),
+        Words::Protect { on } => protect::protect(unit, on, sink),
+        Words::Upgrade => upgrade::upgrade(unit, sink),
+        _ => unreachable!("a command that takes memory or reads its input"),
+    }
+}
+
+/// Carries out a command that reads no input in these working objects.
+fn carry_out_in<T: Tape, K: Sink>(
+    mut room: Room,
+    command: &Words,
+    unit: &mut Unit<T>,
+    sink: &mut K,
+) -> Status
+    requires values { HasValues command.now }
+    requires blind { (traits_of command.now).reads ≡ false }
+    requires room { (traits_of command.now).memory ≡ true }
+    ensures { EndsBlind T.means K.means command.now
+        unit.old.tape unit.new.tape sink.old sink.new result }
+{
+    match *command {
         Words::Format { ref label, date } => {
-            let mut room = memory.room()?;
-            Ok(format::format_cartridge(unit, &mut room, label, date, sink))
+            format::format_cartridge(unit, &mut room, label, date, sink)
         }
-        Words::Info => Ok(info::info(unit, memory.room()?, sink)),
-        Words::List => Ok(list::list(unit, memory.room()?, sink)),
-        Words::Room => Ok(room::tell_room(unit, memory.room()?, sink)),
-        Words::Check => Ok(check::check(unit, memory.room()?, sink)),
-        Words::Restore { number } => Ok(restore::restore(unit, memory.room()?, number, sink)),
-        Words::Scrub => Ok(scrub::scrub(unit, memory.room()?, sink)),
-        Words::ScrubDeep => Ok(scrub::scrub_deep(unit, memory.room()?, sink)),
-        Words::Make { seed, count } => Ok(make::make(unit, memory.room()?, seed, count, sink)),
-        Words::Upgrade => Ok(upgrade::upgrade(unit, sink)),
-        Words::Append { .. } | Words::Pulses | Words::Script => {
-            unreachable!("a command that reads its input")
-        }
+        Words::Info => info::info(unit, room, sink),
+        Words::List => list::list(unit, room, sink),
+        Words::Room => room::tell_room(unit, room, sink),
+        Words::Check => check::check(unit, room, sink),
+        Words::Restore { number } => restore::restore(unit, room, number, sink),
+        Words::Scrub => scrub::scrub(unit, room, sink),
+        Words::ScrubDeep => scrub::scrub_deep(unit, room, sink),
+        Words::Make { seed, count } => make::make(unit, room, seed, count, sink),
+        _ => unreachable!("a command of a person's hand, or one that reads its input"),
     }
 }
 

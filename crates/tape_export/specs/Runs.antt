@@ -1,5 +1,5 @@
 -- How a run of the program ends (this project's own).
-use Rattle.std.specs.Prelude.{◌≡◌, ◌⊎◌, ℕ, []}
+use Rattle.std.specs.Prelude.{◌≡◌, ◌⊎◌, ℕ, List, [], codes}
 use Rattle.qic_base.specs.Cartridge.{Cartridge}
 use Rattle.qic_base.specs.Sink as sinks
 use Rattle.qic_base.specs.SinkCalls as sink_calls
@@ -22,6 +22,18 @@ status_code TapeFault = 18
 status_code NoMemory = 19
 status_code NoImage = 20
 status_code NoMap = 20
+
+-- the line of a status on standard error; none where all went well
+abbrev pub status_text : ExportStatus → List ℕ
+status_text Done = []
+status_text Usage = codes "usage: tape_export [--map FILE] IMAGE\n"
+status_text NoCartridge = codes "tape_export: no cartridge\n"
+status_text NotEmpty = codes "tape_export: the map is not empty\n"
+status_text SinkFault = codes "tape_export: output failed\n"
+status_text TapeFault = codes "tape_export: the image failed\n"
+status_text NoMemory = codes "tape_export: no memory\n"
+status_text NoImage = codes "tape_export: cannot open the image\n"
+status_text NoMap = codes "tape_export: cannot open the map\n"
 
 -- a tape, and the sinks of a dump and of its map
 pub record Ends (T K M : Type 0) : Type 0 where

@@ -1,7 +1,7 @@
 //! How a run ends, and what is said of it.
 
 ghost use Rattle.std.specs.Prelude.{◌≡◌};
-ghost use Rattle.tape_export.specs.Runs.{status_code};
+ghost use Rattle.tape_export.specs.Runs.{status_code, status_text};
 
 /// How a run ended.
 #[derive(Clone, Copy, PartialEq, Eq)]
@@ -44,7 +44,9 @@ impl ExportStatus {
     }
 
     /// Its line on standard error; none where all went well.
-    pub fn line(self) -> &'static str {
+    pub fn line(self) -> &'static str
+        ensures { result.now ≡ status_text self }
+    {
         match self {
             ExportStatus::Done => "",
             ExportStatus::Usage => "usage: tape_export [--map FILE] IMAGE\n",
