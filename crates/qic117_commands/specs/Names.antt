@@ -1,5 +1,5 @@
 -- The names of commands, and the words for codes, as they are printed (this project's own).
-use Rattle.std.specs.Prelude.{ℕ, not, List, codes}
+use Rattle.std.specs.Prelude.{ℕ, List, codes}
 use Rattle.qic117_commands.specs.declared.command.Command.{Command}
 use Rattle.qic117_commands.specs.declared.command.Command.TheVariants.{Reset, ReportNextBit, Pause, MicroStepPause, AlternateTimeout}
 use Rattle.qic117_commands.specs.declared.command.Command.TheVariants.{ReportStatus, ReportError, ReportConfiguration, ReportRom}
