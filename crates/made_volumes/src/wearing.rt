@@ -38,9 +38,9 @@ fn wear_sector<T: Tape>(
 {
     match store.wear(unit, segment, sector)? {
         Ok(()) => Ok(()),
-        Err(HandFault::NoCartridge) => unreachable!("the cartridge is mounted"),
-        Err(HandFault::BadPlace) => unreachable!("the segment is one of the cartridge"),
-        Err(HandFault::NotBlank) => unreachable!("a sector is worn whatever it holds"),
+        Err(HandFault::NoCartridge | HandFault::BadPlace | HandFault::NotBlank) => {
+            unreachable!("a sector of the mounted cartridge is worn whatever it holds")
+        }
     }
 }
 
