@@ -60,7 +60,7 @@ returns-then-branch-gt0-clause-ends g c =
     let mid = reading c.take_volume.new.unit.tape c.take_volume.new.source in
     let new = reading c.take_volume.new.unit.tape c.skip.new.source in
     let had : ℕ = room words entries in
-    let is : c.args.have ≡ room words entries = c.requires.have in
+    let is : c.args.have ≡ had = c.requires.have in
     let has = moved_all g.T.Tape.means g.S.Source.means words entries old mid c.first_free.result c.args.have
     (Ok c.in_ok-written.written) c.first_free.ensures is c.in_ok-written.ensures.ends in
     let went : InputWent g.T.Tape.means g.S.Source.means words entries None old new (TooLong (had + 1) had) =
@@ -71,10 +71,11 @@ returns-then-branch-gt0-clause-ends g c =
     (let least = c.if-written-have.false in omega arith))
     c.skip.ensures.cause.later c.in_ok-skip.ensures.cause.stood c.in_ok-skip.field-0
     (let other = c.if-branch-gt0.true in omega arith) c.in_ok-skip.ensures.skipped in
+    let need : c.from.result ≡ had = c.from.ensures ∙ is in
+    let room_had : c.from-then-branch-gt0.result ≡ had = c.from-then-branch-gt0.ensures ∙ is in
     subst (λ (n : ℕ). InputWent g.T.Tape.means g.S.Source.means words entries None old new (TooLong (n + 1) c.from-then-branch-gt0.result))
-    (sym (c.from.ensures ∙ is))
-    (subst (λ (n : ℕ). InputWent g.T.Tape.means g.S.Source.means words entries None old new (TooLong (had + 1) n))
-    (sym (c.from-then-branch-gt0.ensures ∙ is)) went)
+    (sym need)
+    (subst (λ (n : ℕ). InputWent g.T.Tape.means g.S.Source.means words entries None old new (TooLong (had + 1) n)) (sym room_had) went)
 
 pub returns-clause-ends : goal.returns-clause-ends
 returns-clause-ends g c =

@@ -14,11 +14,12 @@ returns-then-have-eq0-clause-ends g c =
     let words = c.args.map.now in
     let entries = c.args.table.now in
     let had : ℕ = room words entries in
+    let is : c.free_room-have.result ≡ had = c.free_room-have.ensures in
+    let have : c.from-then-have-eq0.result ≡ had = c.from-then-have-eq0.ensures ∙ is in
     let few : (had ≡ 0) ⊎ (had < c.args.count) =
     elim c.then-have-eq0.branch [
-      | then-have-eq0-via-then-have-eq0 w ↦ inl (sym c.free_room-have.ensures ∙ w.if-have-eq0.true)
-      | then-have-eq0-via-else-have-eq0+then-count-have w ↦ inr (let more = w.if-count-have.true in let is = c.free_room-have.ensures in
-          omega arith)
+      | then-have-eq0-via-then-have-eq0 w ↦ inl (let none = w.if-have-eq0.true in omega arith)
+      | then-have-eq0-via-else-have-eq0+then-count-have w ↦ inr (let more = w.if-count-have.true in omega arith)
     ] in
     let refused : InputWent g.T.Tape.means g.S.Source.means words entries (Some c.args.count)
     (reading c.args.unit.now.tape c.args.source.now) (reading c.args.unit.now.tape c.args.source.now) (TooLong c.args.count had) =
@@ -29,7 +30,7 @@ returns-then-have-eq0-clause-ends g c =
     (sym c.from.ensures)
     (subst (λ (n : ℕ). InputWent g.T.Tape.means g.S.Source.means words entries (Some c.args.count)
     (reading c.args.unit.now.tape c.args.source.now) (reading c.args.unit.now.tape c.args.source.now) (TooLong c.args.count n))
-    (sym (c.from-then-have-eq0.ensures ∙ c.free_room-have.ensures)) refused)
+    (sym have) refused)
 
 pub returns-clause-ends : goal.returns-clause-ends
 returns-clause-ends g c =
