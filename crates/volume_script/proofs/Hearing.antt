@@ -1,6 +1,6 @@
 -- What one line of the input did, from the line that was read and what was done with it.
 use Rattle.std.proofs.Common.{◌≡◌, ◌≢◌, ℕ, ◌+◌, ◌<◌, ◌≤◌, nat_le, leb-true, leb-false, List, [], ◌++◌, length, take, drop, Option, Some}
-use Rattle.std.proofs.Common.{None, IfSome, codes, refl, sym, ap, ◌∙◌, subst, arith, inl, inr, append_assoc}
+use Rattle.std.proofs.Common.{None, IfSome, Err, codes, refl, sym, ap, ◌∙◌, subst, arith, inl, inr, append_assoc}
 use Rattle.std.specs.Option.{option_map}
 use Rattle.std.proofs.lemmas.Bool.{cases_Bool}
 use Rattle.std.proofs.lemmas.List.{length-append, length-take-le, take-append-drop}
@@ -14,6 +14,9 @@ use Rattle.qic_base.specs.Acts.{Act, Outside, Failing, TapeFails, SourceFails, S
 use Rattle.qic_base.proofs.Joins.{cut_is_longer}
 use Rattle.segment_io.proofs.Going.{tells_always}
 use Rattle.command_spec.specs.declared.line.Line.{Line}
+use Rattle.command_spec.specs.declared.status.Status.{Status}
+use Rattle.qic_base.specs.declared.store_fault.StoreFault.{StoreFault}
+use Rattle.qic_base.specs.declared.store_fault.StoreFault.TheVariants as fault
 use Rattle.command_spec.specs.declared.line.Line.TheVariants as line
 use Rattle.command_spec.specs.Input.{AtEnd, AtStop, AtFault, EndsEarly, promised, most_items, IsLineText}
 use Rattle.command_spec.specs.Script.{ReachesItem}
@@ -25,10 +28,10 @@ use Rattle.tape_script.proofs.Lined.{IsLined-one_newline}
 use Rattle.tape_script.proofs.Reaching.{front_in_line, in_line}
 use Rattle.tape_script.proofs.Rests.{whole_told}
 use Rattle.volume_store.specs.Mounting.{StoreView}
-use Rattle.volume_script.specs.Heard.{HeardItem, HeardShort, HeardCut, InItem, NextDoes}
+use Rattle.volume_script.specs.Heard.{HeardItem, HeardShort, HeardCut, Hears, InItem, NextDoes, status_behind}
 use Rattle.command_laws.specs.Inputs.{IsLine}
 use Rattle.command_laws.specs.ScriptItems.{EarlyDoes}
-use Rattle.volume_script.specs.Items.{ItemDone, ItemShort, ItemCut, ItemMismatched, WouldDo}
+use Rattle.volume_script.specs.Items.{ItemDone, ItemEnds, ItemShort, ItemCut, ItemMismatched, WouldDo}
 use Rattle.command_spec.specs.Script.{LineDoes}
 use Rattle.volume_script.proofs.Appended.{flip}
 use Rattle.volume_script.proofs.Content.{any_bytes, content_behind}
@@ -278,6 +281,36 @@ module _ {T S K : Type 0} (t : tapes.Meaning T) (s : sources.Meaning S) (k : sin
         acts = cut.acts;
         cut = earlier_cut a i m x (outside b j y) cut.acts failing later cut.cut;
       }
+
+      -- a fault that is no refusal
+      pub ends_script : (number place : ℕ) (why : StoreFault) → ItemEnds t s k store after (outside a m x) (outside b j y) asked (Err why) →
+          status_behind why number place ≢ None
+      ends_script number place (fault.Short all read) ends none = cc
+      ends_script number place fault.TableMismatch ends none = cc
+      ends_script number place fault.Source ends none = cc
+      ends_script number place fault.Sink ends none = cc
+      ends_script number place fault.Tape ends none = cc
+      ends_script number place f ends none = absurd ends
+
+      heard_failing : (number place : ℕ) (why : StoreFault) → number ≤ most_items →
+          ItemEnds t s k store after (outside a m x) (outside b j y) asked (Err why) →
+          IfSome (status_behind why number place)
+          (λ answer. Hears t s k store after (outside a i x) (outside b j y) number place (Err answer))
+      heard_failing number place (fault.Short all read) within ends = (refl, refl, inr (heard_short read ends.1))
+      heard_failing number place fault.TableMismatch within ends = heard_mismatch ends
+      heard_failing number place fault.Source within ends = heard_cut number place SourceFails within ends
+      heard_failing number place fault.Sink within ends = heard_cut number place SinkFails within ends
+      heard_failing number place fault.Tape within ends = heard_cut number place TapeFails within ends
+      heard_failing number place f within ends = absurd ends
+
+      pub heard_failed : (number place : ℕ) (why : StoreFault) (answer : Status) → number ≤ most_items →
+          Some answer ≡ status_behind why number place →
+          ItemEnds t s k store after (outside a m x) (outside b j y) asked (Err why) →
+          Hears t s k store after (outside a i x) (outside b j y) number place (Err answer)
+      heard_failed number place why answer within is ends =
+          subst (λ (o : Option Status). IfSome o
+          (λ status. Hears t s k store after (outside a i x) (outside b j y) number place (Err status))) (sym is)
+          (heard_failing number place why within ends)
 
   module _ (store after : StoreView) (a b : T) (i m j : S) (x y : K) (later : s.faults i ≤ s.faults m) where
     -- ---- the source failed before the line's end

@@ -13,11 +13,22 @@ use Rattle.command_spec.specs.declared.status.Status.{Status}
 use Rattle.command_laws.specs.ScriptItems.{EarlyDoes}
 use Rattle.command_spec.specs.Script.{Did, EndDoes, ReachesItem}
 use Rattle.command_laws.specs.ScriptTerms.{ItemDoes}
+use Rattle.qic_base.specs.declared.store_fault.StoreFault.{StoreFault}
 use Rattle.qic_base.specs.Sink as sinks
 use Rattle.qic_base.specs.Source as sources
 use Rattle.qic_base.specs.Tape as tapes
 use Rattle.qic_base.specs.TapeCalls as tape_calls
 use Rattle.command_spec.specs.declared.status.Status.TheVariants as status
+use Rattle.qic_base.specs.declared.store_fault.StoreFault.TheVariants as fault
+
+-- how the script ends behind a fault of a line that is no refusal, with the line's number and so many bytes before it
+abbrev pub status_behind : StoreFault → (number place : ℕ) → Option Status
+status_behind (fault.Short all read) number place = Some (status.ScriptFault number place)
+status_behind fault.TableMismatch number place = Some status.TableMismatch
+status_behind fault.Source number place = Some status.SourceFault
+status_behind fault.Sink number place = Some status.SinkFault
+status_behind fault.Tape number place = Some status.TapeFault
+status_behind other number place = None
 
 -- no item has more bytes: its line has a u8 of them, and it promises a u32
 abbrev pub longest : ℕ

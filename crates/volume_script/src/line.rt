@@ -1,10 +1,10 @@
 //! A line that may be an item.
 
-ghost use Rattle.std.specs.Prelude.{◌≡◌, ◌≢◌, ◌≤◌, Err, IfOk, IfSome, is_some};
+ghost use Rattle.std.specs.Prelude.{◌≡◌, ◌≢◌, ◌≤◌, None, Some, Err, IfOk, IfSome, is_some};
 ghost use Rattle.command_spec.specs.Input.{most_items, promised};
 ghost use Rattle.volume_store.specs.Appending.{KeepsFormat};
 ghost use Rattle.volume_store.specs.Mounting.{StoreFits};
-ghost use Rattle.volume_script.specs.Heard.{Hears, longest};
+ghost use Rattle.volume_script.specs.Heard.{Hears, longest, status_behind};
 
 use crate::item::carry_out;
 use command_spec::Status;
@@ -21,6 +21,27 @@ fn promised(line: &Line) -> u32
     match line {
         Line::Append { length, .. } => *length,
         Line::List | Line::Restore { .. } | Line::Scrub | Line::Lose { .. } | Line::End => 0,
+    }
+}
+
+/// How a fault ends the script, at a line of this number that so many bytes come before.
+fn status_behind(fault: StoreFault, line: u32, place: u64) -> Status
+    requires ends { status_behind fault line place ≢ None }
+    ensures { Some result ≡ status_behind fault line place }
+{
+    match fault {
+        StoreFault::Short { .. } => Status::ScriptFault { line, place },
+        StoreFault::TableMismatch => Status::TableMismatch,
+        StoreFault::Source => Status::SourceFault,
+        StoreFault::Sink => Status::SinkFault,
+        StoreFault::Tape => Status::TapeFault,
+        StoreFault::NotFormatted
+        | StoreFault::Foreign { .. }
+        | StoreFault::Full { .. }
+        | StoreFault::NoVolume { .. }
+        | StoreFault::Lost { .. }
+        | StoreFault::Mismatch { .. }
+        | StoreFault::Protected => unreachable!("a line that is refused has its reply"),
     }
 }
 
@@ -57,20 +78,7 @@ pub fn carry_out_line<T: Tape, S: Source, K: Sink>(
         Ok(LineRead::Line { line: asked, read }) => {
             match carry_out(store, unit, &asked, source, sink) {
                 Ok(()) => Ok(Some(u64::from(read) + u64::from(promised(&asked)))),
-                Err(StoreFault::Short { .. }) => Err(Status::ScriptFault { line, place }),
-                Err(StoreFault::TableMismatch) => Err(Status::TableMismatch),
-                Err(StoreFault::Source) => Err(Status::SourceFault),
-                Err(StoreFault::Sink) => Err(Status::SinkFault),
-                Err(StoreFault::Tape) => Err(Status::TapeFault),
-                Err(
-                    StoreFault::NotFormatted
-                    | StoreFault::Foreign { .. }
-                    | StoreFault::Full { .. }
-                    | StoreFault::NoVolume { .. }
-                    | StoreFault::Lost { .. }
-                    | StoreFault::Mismatch { .. }
-                    | StoreFault::Protected,
-                ) => unreachable!("a line that is refused has its reply"),
+                Err(fault) => Err(status_behind(fault, line, place)),
             }
         }
         Ok(LineRead::Bad { .. }) => Err(Status::ScriptFault { line, place }),
