@@ -1,5 +1,8 @@
 //! How many bytes of a source are wanted.
 
+ghost use Rattle.std.specs.Prelude.{◌≡◌};
+ghost use Rattle.volume_input.specs.Length.{is_exact};
+
 /// How many bytes of a source are wanted.
 #[derive(Clone, Copy)]
 pub struct Wanted {
@@ -10,10 +13,19 @@ pub struct Wanted {
 }
 
 /// What a number of bytes that are wanted says of the source.
-#[derive(Clone, Copy, Drop, PartialEq, Eq)]
+#[derive(Clone, Copy, Drop)]
 pub enum Length {
     /// It may end before.
     AtMost,
     /// Where it ends before, that is a fault.
     Exact,
+}
+
+impl Length {
+    /// Whether the source has to have so many.
+    pub(crate) fn is_exact(self) -> bool
+        ensures { result ≡ is_exact self }
+    {
+        matches!(self, Length::Exact)
+    }
 }

@@ -9,7 +9,7 @@ ghost use Rattle.volume_input.specs.Length.{is_exact};
 ghost use Rattle.volume_input.specs.Next.{NextEnds};
 
 use crate::filling::fill_work;
-use crate::length::{Length, Wanted};
+use crate::length::Wanted;
 use bad_sector_map::BadMap;
 use drive_states::Unit;
 use host_driver::Host;
@@ -42,7 +42,7 @@ pub fn write_next<T: Tape, S: Source>(
     let left = wanted.most - before;
     let read = fill_work(source, work, (capacity / 1024) as u8, left)?;
     are_sectors(work.sectors());
-    if wanted.length == Length::Exact && read < capacity.min(left) {
+    if wanted.length.is_exact() && read < capacity.min(left) {
         return Err(StoreFault::Short {
             promised: wanted.most,
             read: before + read,

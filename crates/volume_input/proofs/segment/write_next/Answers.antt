@@ -1,18 +1,12 @@
-use Rattle.std.proofs.Common.{rules, refl, ap, ◌∙◌, Err, ◌≡◌, ◌≢◌, ◌⊎◌, inl, inr, ◌-◌, ◌≤◌, min, true, All, subst, arith}
+use Rattle.std.proofs.Common.{refl, sym, ap, ◌∙◌, Err, ◌≡◌, ◌⊎◌, inl, inr, ◌-◌, ◌≤◌, min, true, All, subst, arith}
 use Rattle.std.proofs.lemmas.Result.{err_from_is_err_and}
 use Rattle.qic_base.specs.Cartridge.{IsSector}
 use Rattle.volume_input.specs.Length.{is_exact}
-use Rattle.volume_input.specs.declared.length.Length.{Length}
-use Rattle.volume_input.specs.declared.length.Length.TheVariants.{AtMost, Exact}
 use Rattle.volume_input.proofs.Next.{data_sectors, source_fault, came_short, next_written, next_broken}
 use Rattle.volume_input.proofs.Places.{data_most}
 use Rattle.volume_input.proofs.segment.write_next.Goals as goal
-use Rattle.volume_input.proofs.segment.write_next.Goals.{else-eq-via-then-eq+else-read-min, else-eq-via-else-eq}
+use Rattle.volume_input.proofs.segment.write_next.Goals.{else-is_exact-via-then-is_exact+else-read-min, else-is_exact-via-else-is_exact}
 use Rattle.volume_input.proofs.segment.write_next.Goals.{else-read-eq0-via-then-read-eq0+else-before-gt0, else-read-eq0-via-else-read-eq0}
-
-only_exact : (asked : Length) → is_exact asked ≡ true → asked ≡ Exact
-only_exact AtMost is = absurd (cc)
-only_exact Exact is = refl
 
 pub overflow_cast-capacity : goal.overflow_cast-capacity
 overflow_cast-capacity g c =
@@ -47,10 +41,9 @@ returns-in_err-write_segment-clause-ends g c =
     let p = err_from_is_err_and c.from_residual-in_err-write_segment.result c.from_residual-in_err-write_segment.ensures.1 in
     let enough : (is_exact c.args.wanted.length) ≡ true →
     min c.capacity-capacity.result (c.args.wanted.most - c.args.before) ≤ c.in_ok-read.read =
-    elim c.else-eq.branch [
-      | else-eq-via-then-eq+else-read-min w ↦ λ asked. omega arith
-      | else-eq-via-else-eq w ↦ λ asked. absurd
-          (let other : c.args.wanted.length ≢ Exact = search rules in other (only_exact c.args.wanted.length asked))
+    elim c.else-is_exact.branch [
+      | else-is_exact-via-then-is_exact+else-read-min w ↦ λ asked. omega arith
+      | else-is_exact-via-else-is_exact w ↦ λ asked. absurd (cc)
     ] in
     let some : (c.args.before ≡ 0) ⊎ (1 ≤ c.in_ok-read.read) =
     elim c.else-read-eq0.branch [
@@ -70,10 +63,9 @@ pub returns-clause-ends : goal.returns-clause-ends
 returns-clause-ends g c =
     let enough : (is_exact c.args.wanted.length) ≡ true →
     min c.capacity-capacity.result (c.args.wanted.most - c.args.before) ≤ c.in_ok-read.read =
-    elim c.else-eq.branch [
-      | else-eq-via-then-eq+else-read-min w ↦ λ asked. omega arith
-      | else-eq-via-else-eq w ↦ λ asked. absurd
-          (let other : c.args.wanted.length ≢ Exact = search rules in other (only_exact c.args.wanted.length asked))
+    elim c.else-is_exact.branch [
+      | else-is_exact-via-then-is_exact+else-read-min w ↦ λ asked. omega arith
+      | else-is_exact-via-else-is_exact w ↦ λ asked. absurd (cc)
     ] in
     let some : (c.args.before ≡ 0) ⊎ (1 ≤ c.in_ok-read.read) =
     elim c.else-read-eq0.branch [
@@ -98,5 +90,5 @@ returns-then-read-min-clause-ends g c = (
       (is_exact c.args.wanted.length) c.requires.can.segment.carries c.capacity-capacity.ensures
       c.in_ok-read.ensures.cause.stood c.in_ok-read.read c.fill_work.new.work
       (subst (All IsSector) c.sectors.ensures.value c.are_sectors.ensures)
-      c.in_ok-read.ensures.filled (let exact : c.args.wanted.length ≡ Exact = search rules in ap is_exact exact) (omega arith),
+      c.in_ok-read.ensures.filled (sym c.is_exact.ensures ∙ c.if-is_exact.true) (omega arith),
 )
