@@ -6,7 +6,6 @@ ghost use Rattle.cartridge_spec.specs.Shape.{usable_count};
 use qic_base::LostSet;
 
 /// 0 to 32.
-#[tactic(auto, using(cartridge_laws::proofs::Places::count_below))]
 pub(crate) fn count_usable(usable: u32) -> u8
     ensures count { result ≡ usable_count usable }
     ensures most { result ≤ 32 }

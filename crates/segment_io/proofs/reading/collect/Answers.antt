@@ -1,4 +1,4 @@
-use Rattle.std.proofs.Common.{◌≡◌, ℕ, ◌++◌, List, length, take, drop, subst, sym, arith}
+use Rattle.std.proofs.Common.{◌≡◌, ℕ, ◌++◌, List, length, take, drop, subst, ap, sym, ◌∙◌, arith}
 use Rattle.std.proofs.lemmas.List.{with_items_is}
 use Rattle.qic_base.specs.Cartridge.{view_at}
 use Rattle.qic_base.specs.TapeCalls.{ReadsSectors, Tells}
@@ -23,3 +23,13 @@ returns-clause-gathered g c =
     (subst (λ t. Tells g.T.Tape.means t
     (λ d. ReadsSectors c.args.usable read.good read.blank (view_at d c.args.segment) before there))
     c.go_to.ensures.tape (rw c.from_mask.ensures at c.in_ok-read.ensures.reads))
+
+pub returns-clause-room : goal.returns-clause-room
+returns-clause-room g c =
+    ap (λ (ss : List (List ℕ)). length ss) (with_items_is c.work.inside.sectors c.gather.new.sectors (omega arith))
+    ∙ c.gather.ensures.room
+
+pub returns-in_err-read-clause-room : goal.returns-in_err-read-clause-room
+returns-in_err-read-clause-room g c =
+    ap (λ (ss : List (List ℕ)). length ss) (with_items_is c.work.inside.sectors c.read_sectors.new.into (omega arith))
+    ∙ omega arith
