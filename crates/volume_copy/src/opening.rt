@@ -1,6 +1,6 @@
 //! Both cartridges of a copy, opened.
 
-ghost use Rattle.std.specs.Prelude.{MatchResult};
+ghost use Rattle.std.specs.Prelude.{◌≡◌, [], IfOk, MatchResult};
 ghost use Rattle.volume_copy.specs.Runs.{AreOpened, BothRefused};
 
 use crate::comparing::first_difference;
@@ -13,13 +13,16 @@ use volume_store::{Room, Store, open};
 /// All working objects of a copy: no later call takes memory.
 #[derive(Drop)]
 pub struct Rooms {
-    from: Room,
-    to: Room,
+    pub from: Room,
+    pub to: Room,
 }
 
 impl Rooms {
-    /// Takes the memory for both cartridges.
-    pub fn new(alloc: Global) -> Result<Rooms, NoMemory> {
+    /// Takes the memory for both cartridges: their lists are empty.
+    pub fn new(alloc: Global) -> Result<Rooms, NoMemory>
+        ensures from { IfOk result (λ rooms. rooms.from.table ≡ []) }
+        ensures to { IfOk result (λ rooms. rooms.to.table ≡ []) }
+    {
         Ok(Rooms {
             from: Room::new(alloc)?,
             to: Room::new(alloc)?,
