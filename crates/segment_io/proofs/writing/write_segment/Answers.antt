@@ -30,8 +30,8 @@ returns-clause-parity g c =
     let all : c.from.result + 3 ≡ usable_count c.args.usable = omega arith in
     with_items_is c.work.inside.sectors left (omega arith)
     ∙ block_put c.args.usable c.from.result c.args.work.now left all
-    (subst (λ (ss : List (List ℕ)). left ≡ take c.from.result ss ++ parity_sectors (take c.from.result ss) ++ drop (c.from.result + 3) ss) was
-    c.put_parity.ensures.parity)
+    (subst (λ (ss : List (List ℕ)). left ≡ take c.from.result ss ++ parity_sectors (take c.from.result ss) ++ drop (c.from.result + 3) ss)
+    was c.put_parity.ensures.parity)
 
 pub returns-clause-did : goal.returns-clause-did
 returns-clause-did g c =
