@@ -1,7 +1,7 @@
 #!/usr/bin/env bash
 # Times format, append and restore of one volume on a cartridge of 100 segments per track, a file on a disk and
-# one in memory: beside the bare calls that the command makes of its image and its input, of the same places in the
-# same order, beside its writes and syncs alone, beside cp of the image, and beside tar into a file with one sync.
+# one in memory: beside the bare writes and syncs of the same places in the same order, beside these and the reads of
+# the image and of the input, beside cp of the image, and beside tar into a file with one sync.
 # Restore also with three lost sectors in each segment of the volume, and check of the same images. And upgrade of
 # an image of version 1 with that volume, beside cp of it with one sync.
 #
@@ -63,12 +63,12 @@ listed() {
         -e 's/^read\(0, "[^"]*"(\.\.\.)?, ([0-9]+)\).*/take \2/p' \
         -e 's/^pwrite64\([0-9]+, "[^"]*"(\.\.\.)?, ([0-9]+), ([0-9]+)\).*/write \3 \2/p' \
         -e 's/^ftruncate\([0-9]+, ([0-9]+)\).*/length \1/p' \
-        -e 's/^fsync\(.*/sync/p' -e 's/^fdatasync\(.*/datasync/p' "$base/calls.$1" > "$base/list.$1"
+        -e 's/^fsync\(.*/sync/p' -e 's/^fdatasync\(.*/datasync/p' "$base/calls.$1" > "$base/list.$1_all"
 }
 
 # The writes and syncs among these.
 listed_writes() {
-    grep -v -e '^read' -e '^take' "$base/list.$1" > "$base/list.$1_writes"
+    grep -v -e '^read' -e '^take' "$base/list.$1_all" > "$base/list.$1"
 }
 
 counted() {
@@ -129,12 +129,12 @@ bare() {
 round() {
     fresh blank.img; timed format "$program" "$room/image" format L
     fresh blank.img; bare format
-    fresh blank.img; bare format_writes
+    fresh blank.img; bare format_all
     fresh formatted.img; timed append "$program" "$room/image" append v < "$room/input"
-    fresh formatted.img; bare append < "$room/input"
-    fresh formatted.img; bare append_writes
+    fresh formatted.img; bare append
+    fresh formatted.img; bare append_all < "$room/input"
     fresh whole.img; timed restore "$program" "$room/image" restore 1
-    bare restore
+    bare restore_all
     timed check "$program" "$room/image" check
     fresh worn.img; timed restore_worn "$program" "$room/image" restore 1
     timed check_worn "$program" "$room/image" check || [ $? = 21 ]
@@ -162,10 +162,10 @@ of_bare() {
         }'
 }
 
-# A command's seconds as times of those of its writes and syncs.
-of_writes() {
-    awk -v ours="$(median "$1" 1)" -v bare="$(median "bare_$1_writes" 1)" 'BEGIN {
-        printf "%-32s %32s bare %9.3f s, ratio %.2f\n", "  its writes and syncs alone", "", bare, ours / bare
+# A command's seconds as times of those of all its calls.
+of_all() {
+    awk -v ours="$(median "$1" 1)" -v bare="$(median "bare_$1_all" 1)" 'BEGIN {
+        printf "%-32s %32s bare %9.3f s, ratio %.2f\n", "  beside its reads, too", "", bare, ours / bare
     }'
 }
 
@@ -190,12 +190,12 @@ for folder in "${folders[@]}"; do
     ahead=$(cat "/sys/class/bdi/$(stat -c '%Hd:%Ld' "$folder")/read_ahead_kb" 2>/dev/null || true)
     echo "$folder${ahead:+, where the system reads ahead by $ahead kB}:"
     of_bare format
-    of_writes format
+    of_all format
     of_bare append
-    of_writes append
+    of_all append
     of_bare upgrade
     of_bytes restore "$bytes" restore
-    of_bytes bare_restore "$bytes" '  its bare calls'
+    of_bytes bare_restore_all "$bytes" '  its reads alone'
     of_bytes restore_worn "$bytes" 'restore, three lost a segment'
     of_bytes check "$bytes" check
     of_bytes check_worn "$bytes" 'check, three lost a segment'
