@@ -1,6 +1,9 @@
 -- The tape runs on by a segment.
-use Rattle.std.proofs.Common.{◌≡◌, ◌+◌, Bool, true, false, [], if◌then◌else◌, ◌&&◌, nat_lt, nat_le, refl, sym, ap, ◌∙◌, subst, arith}
+use Rattle.std.proofs.Common.{◌≡◌, ℕ, ◌+◌, ◌*◌, ◌<◌, Bool, true, false, [], if◌then◌else◌, ◌&&◌, nat_lt, nat_le}
+use Rattle.std.proofs.Common.{refl, sym, ap, ◌∙◌, subst, arith}
 use Rattle.std.proofs.lemmas.Bool.Decides.{nat_tests}
+use Rattle.std.proofs.Math.Nat.{mod-add-div}
+use Rattle.tape_geometry.specs.Geometry.{track_of, logical_offset}
 use Rattle.qic117_commands.specs.Views.{is_format}
 use Rattle.drive_spec.specs.declared.deck.Deck.{Deck}
 use Rattle.drive_spec.specs.declared.deck.Motion.TheVariants.{Stopped, Streaming}
@@ -11,7 +14,7 @@ use Rattle.drive_spec.specs.Record.{Record}
 use Rattle.drive_states.specs.Typed.{is_seeking}
 use Rattle.drive_states.proofs.Marks.{gap_steps-none}
 use Rattle.host_driver.specs.Fits.{GeneratesAll}
-use Rattle.host_driver.specs.Place.{KeepsMode, RunsOn, idled_deck}
+use Rattle.host_driver.specs.Place.{KeepsMode, RunsOn, StreamsAt, idled_deck, streams_before}
 use Rattle.host_driver.specs.Train.{TakesTrain}
 use Rattle.host_driver.proofs.Follows.{pulsed_row-idled}
 use Rattle.host_driver.proofs.Motions.{ticked-still}
@@ -42,6 +45,19 @@ runs_on d g =
           let off : nat_lt (d.offset + 1) (limit d) ≡ false = grind (arith, nat_tests) in
           rw off refl;
     }
+
+-- from the segment before one the tape runs on into it
+pub streams_into : (n segment track offset : ℕ) (d new : Deck) → segments_per_track d ≡ n →
+    track ≡ track_of n segment → offset ≡ logical_offset n segment → offset < n →
+    streams_before track offset d ≡ true → (is_streaming d.motion ≡ true → RunsOn d new) → StreamsAt segment 0 new
+streams_into n segment track offset d new long is-track is-offset within before runs =
+    let running : is_streaming d.motion ≡ true = grind (arith, nat_tests) in
+    let here : d.track ≡ track = grind (arith, nat_tests) in
+    let next : d.offset + 1 ≡ offset = grind (arith, nat_tests) in
+    let at : StreamsAt (d.track * segments_per_track d + d.offset + 1) 0 new = (runs running).within (omega arith) in
+    let place : segment ≡ d.track * segments_per_track d + d.offset + 1 =
+    rw (here, is-track, long) (omega (arith, mod-add-div segment n, next, is-offset)) in
+    record { motion = at.motion; here = place ∙ at.here }
 
 -- an empty gap
 pub record Idles (r : Record) : Type 0 where

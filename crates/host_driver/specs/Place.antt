@@ -1,5 +1,5 @@
 -- Where the tape stands (this project's profile of QIC-117).
-use Rattle.std.specs.Prelude.{◌≡◌, ℕ, ◌+◌, ◌<◌, ◌≤◌, if◌then◌else◌}
+use Rattle.std.specs.Prelude.{◌≡◌, ℕ, ◌+◌, ◌<◌, ◌≤◌, ◌==◌, ◌&&◌, Bool, if◌then◌else◌}
 use Rattle.drive_spec.specs.declared.deck.Deck.{Deck}
 use Rattle.drive_spec.specs.declared.deck.Motion.TheVariants.{Stopped, Streaming}
 use Rattle.drive_spec.specs.Deck.{segments_per_track, is_streaming}
@@ -10,6 +10,10 @@ use Rattle.drive_states.specs.Reach.{segment_of}
 pub record StreamsAt (segment next : ℕ) (d : Deck) : Type 0 where
   pub motion : d.motion ≡ Streaming next
   pub here : segment ≡ segment_of d
+
+-- the tape streams at the segment before the one with this offset, on its track
+abbrev pub streams_before : ℕ → ℕ → Deck → Bool
+streams_before track offset d = is_streaming d.motion && d.track == track && d.offset + 1 == offset
 
 -- the cartridge and the mode are what they were
 pub record KeepsMode (old new : Deck) : Type 0 where

@@ -8,7 +8,8 @@ ghost use Rattle.drive_spec.specs.Terms.{is_referenced, sought, skipped};
 ghost use Rattle.drive_states.specs.Reach.{segment_of};
 ghost use Rattle.drive_states.specs.Typed.{skip_command};
 ghost use Rattle.host_driver.specs.Calls.{IsReady, Keeps};
-ghost use Rattle.host_driver.specs.Place.{StreamsAt, StandsAt, KeepsMode, RunsOn, idled_deck};
+ghost use Rattle.host_driver.specs.Fits.{deck_of};
+ghost use Rattle.host_driver.specs.Place.{StreamsAt, streams_before, StandsAt, KeepsMode, RunsOn, idled_deck};
 ghost use Rattle.host_driver.specs.Train.{ready_deck};
 
 use crate::host::Host;
@@ -18,8 +19,9 @@ use qic_base::Tape;
 use qic117_commands::{Command, Mode};
 
 impl Host {
-    /// Has the tape stream at a segment, before its sector 0, from wherever it stands or streams. The cartridge has its
-    /// reference bursts, and in Format mode the segment is the first of its track.
+    /// Has the tape stream at a segment, before its sector 0, from wherever it stands or streams; one that streams at the
+    /// segment before it on its track runs on. The cartridge has its reference bursts, and in Format mode the segment is
+    /// the first of its track.
     pub fn go_to<T: Tape>(&mut self, unit: &mut Unit<T>, segment: u32)
         requires ready { IsReady T.means self.old unit.old }
         requires on_tape { segment < 28 * segments_per_track unit.old.drive.deck }
@@ -32,10 +34,24 @@ impl Host {
     {
         let track = self.geometry.track_of(segment);
         let offset = self.geometry.logical_offset(segment);
+        if self.streams_before(track, offset) {
+            self.next_segment(unit);
+            return;
+        }
         self.stand(unit);
         self.align_track(unit, track);
         self.align_offset(unit, offset);
         self.forward(unit);
+    }
+
+    /// Whether the tape streams at the segment before the one with this offset, on this track.
+    fn streams_before(&self, track: u8, offset: u16) -> bool
+        ensures { result ≡ streams_before track offset (deck_of self.now) }
+    {
+        is_streaming(&self.deck)
+            && self.deck.track == track
+            && offset > 0
+            && self.deck.offset == offset - 1
     }
 
     /// Has the tape that streams run on to the next segment of its track, or behind the last; one that stands stays.
