@@ -15,16 +15,21 @@ use Rattle.cartridge_laws.proofs.AppendBytes.{carried_all, bytes_of_sectors}
 use Rattle.qic_base.specs.Cartridge.{IsSector}
 use Rattle.sector_fill.specs.Filling.{GaveUpTo, GaveWithin, AreFilled}
 use Rattle.command_spec.specs.Append.{segment_act}
+use Rattle.volume_input.proofs.Places.{data_most}
 use Rattle.volume_input.specs.Next.{Came, NextWritten, NextBroken, CameShort}
 use Rattle.qic_base.specs.Source as sources
 use Rattle.qic_base.specs.Tape as tapes
 
 -- the sectors of data, by the bytes that they hold
-pub data_sectors : (words : List ℕ) (s n : ℕ) → Carries (mask_at words s) → n ≡ capacity (mask_at words s) →
+data_sectors : (words : List ℕ) (s n : ℕ) → Carries (mask_at words s) → n ≡ capacity (mask_at words s) →
     n / 1024 ≡ data_count (mask_at words s)
 data_sectors words s n carry is =
     let all : n ≡ 1024 * data_count (mask_at words s) = is ∙ carried_all words s carry in
     omega arith
+
+-- they are no more than the usable sectors but those of parity
+pub sectors_most : (words : List ℕ) (s n : ℕ) → Carries (mask_at words s) → n ≡ capacity (mask_at words s) → n / 1024 ≤ 29
+sectors_most words s n carry is = omega (arith, data_sectors words s n carry is, data_most words s)
 
 -- the writes of a segment are those of its act
 same_writes : (words : List ℕ) (s count usable : ℕ) (sectors : List (List ℕ)) (bytes : List ℕ) → count ≡ data_count (mask_at words s) →

@@ -2,29 +2,20 @@ use Rattle.std.proofs.Common.{refl, sym, ap, ◌∙◌, Err, ◌≡◌, ◌⊎�
 use Rattle.std.proofs.lemmas.Result.{err_from_is_err_and}
 use Rattle.qic_base.specs.Cartridge.{IsSector}
 use Rattle.volume_input.specs.Length.{is_exact}
-use Rattle.volume_input.proofs.Next.{data_sectors, source_fault, came_short, next_written, next_broken}
-use Rattle.volume_input.proofs.Places.{data_most}
+use Rattle.volume_input.proofs.Next.{sectors_most, source_fault, came_short, next_written, next_broken}
 use Rattle.volume_input.proofs.segment.write_next.Goals as goal
+use Rattle.volume_input.proofs.segment.write_next.Goals.{After-write_segment}
 use Rattle.volume_input.proofs.segment.write_next.Goals.{else-is_exact-via-then-is_exact+else-read-min, else-is_exact-via-else-is_exact}
-use Rattle.volume_input.proofs.segment.write_next.Goals.{else-read-eq0-via-then-read-eq0+else-before-gt0, else-read-eq0-via-else-read-eq0}
 
 pub overflow_cast-capacity : goal.overflow_cast-capacity
 overflow_cast-capacity g c =
-    omega (
-      arith,
-      data_sectors c.args.map.now c.args.segment c.capacity-capacity.result c.requires.can.segment.carries
-          c.capacity-capacity.ensures,
-      data_most c.args.map.now c.args.segment,
-    )
+    let few = sectors_most c.args.map.now c.args.segment c.capacity-capacity.result
+    c.requires.can.segment.carries c.capacity-capacity.ensures in omega arith
 
 pub fill_work-requires : goal.fill_work-requires
 fill_work-requires g c =
-    omega (
-      arith,
-      data_sectors c.args.map.now c.args.segment c.capacity-capacity.result c.requires.can.segment.carries
-          c.capacity-capacity.ensures,
-      data_most c.args.map.now c.args.segment,
-    )
+    let few = sectors_most c.args.map.now c.args.segment c.capacity-capacity.result
+    c.requires.can.segment.carries c.capacity-capacity.ensures in omega arith
 
 pub returns-in_err-read-clause-ends : goal.returns-in_err-read-clause-ends
 returns-in_err-read-clause-ends g c =
@@ -36,50 +27,42 @@ returns-in_err-read-clause-ends g c =
     (is_exact c.args.wanted.length) c.requires.can.segment.carries c.capacity-capacity.ensures
     c.in_err-read.ensures.cause.failed c.in_err-read.ensures.filled)
 
+-- where all bytes are needed, no fewer came than the segment takes
+enough : (g : _) (c : After-write_segment g) → is_exact c.args.wanted.length ≡ true →
+    min c.capacity-capacity.result (c.args.wanted.most - c.args.before) ≤ c.in_ok-read.read
+enough g c asked = elim c.else-is_exact.branch [
+  | else-is_exact-via-then-is_exact+else-read-min w ↦ omega arith
+  | else-is_exact-via-else-is_exact w ↦ absurd (cc)
+]
+
+-- behind other segments at least one byte came
+some : (g : _) (c : After-write_segment g) → (c.args.before ≡ 0) ⊎ (1 ≤ c.in_ok-read.read)
+some g c = elim c.else-read-eq0.either [ inl none ↦ inl (omega arith) | inr more ↦ inr (omega arith) ]
+
 pub returns-in_err-write_segment-clause-ends : goal.returns-in_err-write_segment-clause-ends
 returns-in_err-write_segment-clause-ends g c =
     let p = err_from_is_err_and c.from_residual-in_err-write_segment.result c.from_residual-in_err-write_segment.ensures.1 in
-    let enough : (is_exact c.args.wanted.length) ≡ true →
-    min c.capacity-capacity.result (c.args.wanted.most - c.args.before) ≤ c.in_ok-read.read =
-    elim c.else-is_exact.branch [
-      | else-is_exact-via-then-is_exact+else-read-min w ↦ λ asked. omega arith
-      | else-is_exact-via-else-is_exact w ↦ λ asked. absurd (cc)
-    ] in
-    let some : (c.args.before ≡ 0) ⊎ (1 ≤ c.in_ok-read.read) =
-    elim c.else-read-eq0.branch [
-      | else-read-eq0-via-then-read-eq0+else-before-gt0 w ↦ inl
-          (omega arith)
-      | else-read-eq0-via-else-read-eq0 w ↦ inr (omega arith)
-    ] in
+    let behind = (goal.at.returns-in_err-write_segment-clause-ends g c).After-write_segment in
     rw (p.1 ∙ ap Err p.2) (next_broken g.T.Tape.means g.S.Source.means c.args.unit.now.tape c.write_segment.new.unit.tape
     c.args.source.now c.fill_work.new.source c.fill_work.ensures.cause.later
     c.args.map.now c.args.segment c.args.before c.args.wanted.most c.capacity-capacity.result
     (is_exact c.args.wanted.length) c.requires.can.segment.carries c.capacity-capacity.ensures
     c.in_ok-read.ensures.cause.stood c.in_ok-read.read c.fill_work.new.work
     (subst (All IsSector) c.sectors.ensures.value c.are_sectors.ensures)
-    c.in_ok-read.ensures.filled enough c.usable.result c.usable.ensures some c.in_err-write_segment.ensures.did)
+    c.in_ok-read.ensures.filled (enough g behind) c.usable.result c.usable.ensures (some g behind)
+    c.in_err-write_segment.ensures.did)
 
 pub returns-clause-ends : goal.returns-clause-ends
 returns-clause-ends g c =
-    let enough : (is_exact c.args.wanted.length) ≡ true →
-    min c.capacity-capacity.result (c.args.wanted.most - c.args.before) ≤ c.in_ok-read.read =
-    elim c.else-is_exact.branch [
-      | else-is_exact-via-then-is_exact+else-read-min w ↦ λ asked. omega arith
-      | else-is_exact-via-else-is_exact w ↦ λ asked. absurd (cc)
-    ] in
-    let some : (c.args.before ≡ 0) ⊎ (1 ≤ c.in_ok-read.read) =
-    elim c.else-read-eq0.branch [
-      | else-read-eq0-via-then-read-eq0+else-before-gt0 w ↦ inl
-          (omega arith)
-      | else-read-eq0-via-else-read-eq0 w ↦ inr (omega arith)
-    ] in
+    let behind = (goal.at.returns-clause-ends g c).After-write_segment in
     next_written g.T.Tape.means g.S.Source.means c.args.unit.now.tape c.write_segment.new.unit.tape
     c.args.source.now c.fill_work.new.source c.fill_work.ensures.cause.later
     c.args.map.now c.args.segment c.args.before c.args.wanted.most c.capacity-capacity.result
     (is_exact c.args.wanted.length) c.requires.can.segment.carries c.capacity-capacity.ensures
     c.in_ok-read.ensures.cause.stood c.in_ok-read.read c.fill_work.new.work
     (subst (All IsSector) c.sectors.ensures.value c.are_sectors.ensures)
-    c.in_ok-read.ensures.filled enough c.usable.result c.usable.ensures some c.in_ok-write_segment.ensures.did
+    c.in_ok-read.ensures.filled (enough g behind) c.usable.result c.usable.ensures (some g behind)
+    c.in_ok-write_segment.ensures.did
 
 pub returns-then-read-min-clause-ends : goal.returns-then-read-min-clause-ends
 returns-then-read-min-clause-ends g c = (
