@@ -33,10 +33,10 @@ not_begun depth = record { depth = depth; report = record { segments = 0; mended
 
 -- the segments in front were looked at, and then those of the volumes
 pub all_looked : {T K : Type 0} {t : tapes.Meaning T} {k : sinks.Meaning K} → TakesBoth k → (words : List ℕ) (entries : List Entry)
-    (a b d : Outside T (Unit {0}) K) (before between after : Progress) →
+    {a b d : Outside T (Unit {0}) K} {before between after : Progress} →
     HasLooked t k (whole_segment 0 ∷ whole_segment 1 ∷ whole_segment 2 ∷ []) a b before between →
     HasLooked t k (looked_volumes words entries) b d between after → HasLooked t k (looked_at words entries) a d before after
-all_looked both words entries a b d before between after front volumes =
+all_looked both words entries {a} {b} {d} {before} {between} {after} front volumes =
     looked_both both (whole_segment 0 ∷ whole_segment 1 ∷ whole_segment 2 ∷ []) (looked_volumes words entries) a b d before between after
     front volumes
 
@@ -57,8 +57,8 @@ counted_all c looked findings acts counts are counted =
     ap (λ (xs : List Act). length (steps_of xs)) are in omega arith)
     (let e = counted.unreadable in omega arith)
 
-module _ {T K : Type 0} (t : tapes.Meaning T) (k : sinks.Meaning K) (depth : Depth) (words : List ℕ) (entries : List Entry)
-    (a b : Outside T (Unit {0}) K) (form : Depth) (report : ScrubReport)
+module _ {T K : Type 0} {t : tapes.Meaning T} {k : sinks.Meaning K} {depth : Depth} (words : List ℕ) (entries : List Entry)
+    {a b : Outside T (Unit {0}) K} {form : Depth} {report : ScrubReport}
     (looked : HasLooked t k (looked_at words entries) a b (not_begun depth) (record { depth = form; report = report })) where
   scrubs : (c : Cartridge) → FindInTurn depth c (looked_at words entries) looked.findings →
       looked.acts ≡ finding_acts c (looked_at words entries) looked.findings →

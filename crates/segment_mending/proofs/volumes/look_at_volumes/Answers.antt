@@ -1,4 +1,4 @@
-use Rattle.std.proofs.Common.{◌≡◌, ℕ, ◌+◌, ◌-◌, ◌++◌, List, take, drop, length, sym, ap, subst, ◌∙◌, arith, Err}
+use Rattle.std.proofs.Common.{ℕ, ◌+◌, ◌-◌, List, take, drop, length, sym, subst, arith, Err}
 use Rattle.qic_base.specs.Alone.{around}
 use Rattle.cartridge_spec.specs.Table.{Entry}
 use Rattle.cartridge_spec.specs.Volumes.{carrying_segments}
@@ -8,11 +8,12 @@ use Rattle.command_laws.specs.ScrubTerms.{looked_segments}
 use Rattle.host_driver.proofs.Keeping.{keeps_none, keeps_both}
 use Rattle.volume_table.specs.Entry.{entry_of}
 use Rattle.qic_base.specs.declared.store_fault.StoreFault.{StoreFault}
-use Rattle.segment_mending.specs.Looking.{HasLooked, Looks, HasFew}
+use Rattle.segment_mending.specs.Looking.{Looks, HasFew}
 use Rattle.segment_mending.specs.Mending.{reported}
-use Rattle.segment_mending.proofs.Joining.{looked_none, looked_both, looks_then, looks_longer, few_after}
+use Rattle.segment_mending.proofs.Joining.{looked_none, looks_then, looks_longer, few_after}
 use Rattle.segment_mending.proofs.Looked.{volumes_more, volumes_part, LiesOn, lies_on}
 use Rattle.segment_mending.proofs.volumes.look_at_volumes.Goals as goal
+use Rattle.segment_mending.proofs.volumes.look_at_volumes.Goals.{After-look_at_volume}
 
 pub loop-index-init : goal.loop-index-init
 loop-index-init g c = record {
@@ -51,52 +52,45 @@ look_at_volume-requires-clause-few g c =
       unreadable = few.unreadable;
     }
 
+-- the volumes up to this one were looked at, or a fault cut that off
+up_to_here : (g : _) (c : After-look_at_volume g) → Looks g.T.Tape.means g.K.Sink.means
+    (looked_volumes c.args.map.now (take (c.loop-index.index + 1) c.args.table.now))
+    (around c.args.unit.now.tape c.args.sink.now) (around c.look_at_volume.new.unit.tape c.look_at_volume.new.sink)
+    c.args.progress.now c.look_at_volume.new.progress c.look_at_volume.result
+up_to_here g c =
+    let words : List ℕ = c.args.map.now in
+    let i : ℕ = c.loop-index.index in
+    let e : Entry = entry_of c.entry-entry.result.now in
+    let a = around c.args.unit.now.tape c.args.sink.now in
+    let d = around c.look_at_volume.new.unit.tape c.look_at_volume.new.sink in
+    subst (λ (ls : List Looked). Looks g.T.Tape.means g.K.Sink.means ls a d
+    c.args.progress.now c.look_at_volume.new.progress c.look_at_volume.result)
+    (sym (volumes_more words c.args.table.now i e c.entry-entry.ensures))
+    (looks_then g.T.Tape.means g.K.Sink.means g.met.K.Sink.took_both (looked_volumes words (take i c.args.table.now))
+    (looked_segments words (carrying_segments words e)) a (around c.loop-index.unit.tape c.loop-index.sink) d
+    c.args.progress.now c.loop-index.progress c.look_at_volume.new.progress c.look_at_volume.result
+    c.loop-index.invariant.looked c.look_at_volume.ensures.looks)
+
 -- a fault in one of the volumes
 pub returns-in_err-look_at_volume-clause-looks : goal.returns-in_err-look_at_volume-clause-looks
 returns-in_err-look_at_volume-clause-looks g c =
-    let t = g.T.Tape.means in
-    let k = g.K.Sink.means in
     let words : List ℕ = c.args.map.now in
     let entries : List Entry = c.args.table.now in
-    let i : ℕ = c.loop-index.index in
-    let e : Entry = entry_of c.entry-entry.result.now in
+    let next : ℕ = c.loop-index.index + 1 in
     let a = around c.args.unit.now.tape c.args.sink.now in
-    let b = around c.loop-index.unit.tape c.loop-index.sink in
     let d = around c.look_at_volume.new.unit.tape c.look_at_volume.new.sink in
     let after = c.look_at_volume.new.progress in
     let fault : StoreFault = c.in_err-look_at_volume.field-0.0 in
-    let is : c.from_residual.result ≡ Err fault = passed c.from_residual.result fault c.from_residual.ensures.1 in
-    let xs : List Looked = looked_volumes words (take i entries) in
-    let ys : List Looked = looked_segments words (carrying_segments words e) in
-    let zs : List Looked = looked_volumes words (drop (i + 1) entries) in
-    let whole : (xs ++ ys) ++ zs ≡ looked_volumes words entries =
-    ap (λ (ls : List Looked). ls ++ zs) (sym (volumes_more words entries i e c.entry-entry.ensures)) ∙ volumes_part words entries (i + 1) in
-    let front : Looks t k (xs ++ ys) a d c.args.progress.now after (Err fault) =
-    looks_then t k g.met.K.Sink.took_both xs ys a b d c.args.progress.now c.loop-index.progress after (Err fault)
-    c.loop-index.invariant.looked c.in_err-look_at_volume.ensures.looks in
-    rw is (subst (λ (ls : List Looked). Looks t k ls a d c.args.progress.now after (Err fault)) whole
-    (looks_longer t k (xs ++ ys) zs a d c.args.progress.now after after fault front))
+    rw (passed c.from_residual.result fault c.from_residual.ensures.1)
+    (subst (λ (ls : List Looked). Looks g.T.Tape.means g.K.Sink.means ls a d c.args.progress.now after (Err fault))
+    (volumes_part words entries next)
+    (looks_longer g.T.Tape.means g.K.Sink.means (looked_volumes words (take next entries)) (looked_volumes words (drop next entries))
+    a d c.args.progress.now after after fault (rw c.in_err-look_at_volume.was at
+    (up_to_here g (goal.at.returns-in_err-look_at_volume-clause-looks g c).After-look_at_volume))))
 
 pub loop-index-preserved : goal.loop-index-preserved
-loop-index-preserved g c =
-    let t = g.T.Tape.means in
-    let k = g.K.Sink.means in
-    let words : List ℕ = c.args.map.now in
-    let entries : List Entry = c.args.table.now in
-    let i : ℕ = c.loop-index.index in
-    let e : Entry = entry_of c.entry-entry.result.now in
-    let a = around c.args.unit.now.tape c.args.sink.now in
-    let b = around c.loop-index.unit.tape c.loop-index.sink in
-    let d = around c.look_at_volume.new.unit.tape c.look_at_volume.new.sink in
-    let after = c.look_at_volume.new.progress in
-    let xs : List Looked = looked_volumes words (take i entries) in
-    let ys : List Looked = looked_segments words (carrying_segments words e) in
-    let more = c.in_ok-look_at_volume.ensures.looks in
-    record {
-      looked = subst (λ (ls : List Looked). HasLooked t k ls a d c.args.progress.now after)
-          (sym (volumes_more words entries i e c.entry-entry.ensures))
-          (looked_both g.met.K.Sink.took_both xs ys a b d c.args.progress.now c.loop-index.progress after
-          c.loop-index.invariant.looked more);
-      few = (let most = c.loop-index.invariant.few in let next = c.in_ok-look_at_volume.ensures.few in omega arith);
-      keeps = keeps_both c.loop-index.invariant.keeps c.in_ok-look_at_volume.ensures.keeps;
-    }
+loop-index-preserved g c = record {
+  looked = rw c.in_ok-look_at_volume.was at (up_to_here g (goal.at.loop-index-preserved g c).After-look_at_volume);
+  few = (let most = c.loop-index.invariant.few in let next = c.in_ok-look_at_volume.ensures.few in omega arith);
+  keeps = keeps_both c.loop-index.invariant.keeps c.in_ok-look_at_volume.ensures.keeps;
+}
