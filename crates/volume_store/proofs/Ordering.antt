@@ -30,12 +30,12 @@ use Rattle.qic_base.specs.Tape as tapes
 use Rattle.qic_base.specs.declared.store_fault.StoreFault.TheVariants as fault
 
 -- what is told of an end, by the store's view, is told of the answer that is that end
-pub ordered : {T S : Type 0} (t : tapes.Meaning T) (s : sources.Meaning S) (old new : Outside T S (Unit {0})) (view store : StoreView)
-    (promised : Option ℕ) (end r : Result Appended StoreFault) →
-    view ≡ store → r ≡ end → InOrder t s old new view promised end → InOrder t s old new store promised r
-ordered t s old new view store promised end r same is order =
-    subst (λ (v : StoreView). InOrder t s old new v promised r) same
-    (subst (λ (answer : Result Appended StoreFault). InOrder t s old new view promised answer) (sym is) order)
+module _ {T S : Type 0} {t : tapes.Meaning T} {s : sources.Meaning S} {old new : Outside T S (Unit {0})} {view store : StoreView}
+    {promised : Option ℕ} {end r : Result Appended StoreFault} where
+  pub ordered : view ≡ store → r ≡ end → InOrder t s old new view promised end → InOrder t s old new store promised r
+  ordered same is order =
+      subst (λ (v : StoreView). InOrder t s old new v promised r) same
+      (subst (λ (answer : Result Appended StoreFault). InOrder t s old new view promised answer) (sym is) order)
 
 module _ {T S : Type 0} (t : tapes.Meaning T) (s : sources.Meaning S) (store : StoreView) (promised : Option ℕ) where
   -- ---- the settling was refused, or broke off

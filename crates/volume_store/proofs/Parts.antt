@@ -1,38 +1,50 @@
 -- What the reading of one piece of a volume gave, by the answer of the call.
-use Rattle.std.proofs.Common.{◌≡◌, ℕ, List, Option, Some, None, IfSome, Result, Ok, Err, sym, ap, subst}
+use Rattle.std.proofs.Common.{◌≡◌, ℕ, List, Option, Some, None, IfSome, Result, Ok, Err, refl, sym, ap, subst}
 use Rattle.qic_base.specs.Cartridge.{Cartridge}
 use Rattle.qic_base.specs.Tape.{Meaning}
 use Rattle.qic_base.specs.TapeCalls.{Tells}
 use Rattle.qic_base.proofs.Steps.{Done-told, Broke-told}
-use Rattle.cartridge_spec.specs.Table.{Entry}
-use Rattle.cartridge_spec.specs.Volumes.{carrying, volume_length}
-use Rattle.command_spec.specs.Restore.{Piece, pieces, pieces_of, volume_at}
+use Rattle.cartridge_spec.specs.Volumes.{carrying}
+use Rattle.command_spec.specs.Restore.{Piece, pieces, pieces_of}
 use Rattle.volume_output.specs.Part.{PartEnds}
+use Rattle.volume_output.specs.declared.extent.Extent.{Extent}
 use Rattle.volume_output.specs.declared.part.PartRead.{PartRead}
 use Rattle.volume_store.specs.Mounting.{StoreView}
-use Rattle.volume_store.specs.Restoring.{ReadsPart}
+use Rattle.volume_store.specs.Restoring.{FindsVolume, ReadsPart}
 use Rattle.qic_base.specs.declared.store_fault.StoreFault.{StoreFault}
 use Rattle.qic_base.specs.declared.store_fault.StoreFault.TheVariants as fault
 
-module _ {T : Type 0} (t : Meaning T) (old new : T) (part : ℕ) (sectors : List (List ℕ)) where
-  -- of a volume's pieces
-  pub piece_of_volume : (store : StoreView) (words : List ℕ) (e : Entry) (bytes : ℕ) (answer : Result (Option PartRead) StoreFault) →
-      words ≡ store.words →
-      bytes ≡ volume_length store.words e →
-      PartEnds t words (pieces_of words (carrying words e.start e.end) bytes) part old new sectors answer →
-      PartEnds t store.words (pieces store.words e) part old new sectors answer
-  piece_of_volume store words e bytes answer same long ends =
-      subst (λ (n : ℕ). PartEnds t store.words (pieces_of store.words (carrying store.words e.start e.end) n) part old new sectors answer)
-      long
-      (subst (λ (ws : List ℕ). PartEnds t ws (pieces_of ws (carrying ws e.start e.end) bytes) part old new sectors answer) same ends)
+-- where there is no such volume
+pub no_part : {T : Type 0} (t : Meaning T) (old : T) (part : ℕ) (store : StoreView) (number : ℕ) (why : StoreFault) →
+    FindsVolume store number (Err why) → ReadsPart t store store number part old old (Err why)
+no_part t old part store number (fault.NoVolume asked count) finds =
+    record { none = finds.0; named = finds.1; counted = finds.2; tape = refl; sink = refl }
+no_part t old part store number f finds = absurd finds
 
-  pub part_failed : (store after : StoreView) (number : ℕ) (e : Entry) (why : StoreFault) → volume_at store.entries number ≡ Some e →
-      PartEnds t store.words (pieces store.words e) part old new sectors (Err why) →
-      ReadsPart t store after number part old new (Err why)
-  part_failed store after number e (fault.Lost segment lost) at ends = (e, at, ends)
-  part_failed store after number e (fault.Mismatch segment) at ends = (e, at, ends)
-  part_failed store after number e fault.Tape at ends = (e, at, ends)
-  part_failed store after number e f at ends = absurd ends
+module _ {T : Type 0} (t : Meaning T) (old new : T) (part : ℕ) (sectors : List (List ℕ)) where
+  -- by the answer of the reading
+  module _ (store : StoreView) (number : ℕ) (words : List ℕ) (volume : Extent) (same : words ≡ store.words)
+      (found : FindsVolume store number (Ok volume)) where
+    pub of_volume : (answer : Result (Option PartRead) StoreFault) →
+        PartEnds t words (pieces_of words (carrying words volume.start volume.end) volume.bytes) part old new sectors answer →
+        PartEnds t store.words (pieces store.words found.0) part old new sectors answer
+    of_volume answer ends =
+        subst (λ (v : Extent). PartEnds t store.words (pieces_of store.words (carrying store.words v.start v.end) v.bytes) part old new
+        sectors answer) found.2
+        (subst (λ (ws : List ℕ). PartEnds t ws (pieces_of ws (carrying ws volume.start volume.end) volume.bytes) part old new sectors
+        answer) same ends)
+
+    pub part_failed : (why : StoreFault) →
+        PartEnds t words (pieces_of words (carrying words volume.start volume.end) volume.bytes) part old new sectors (Err why) →
+        ReadsPart t store store number part old new (Err why)
+    part_failed why ends = by_fault why (of_volume (Err why) ends)
+      where
+        by_fault : (why : StoreFault) → PartEnds t store.words (pieces store.words found.0) part old new sectors (Err why) →
+            ReadsPart t store store number part old new (Err why)
+        by_fault (fault.Lost segment lost) ends = (found.0, found.1, ends)
+        by_fault (fault.Mismatch segment) ends = (found.0, found.1, ends)
+        by_fault fault.Tape ends = (found.0, found.1, ends)
+        by_fault f ends = absurd ends
 
   -- the tape was only read
   part_told : (words : List ℕ) (needed : List Piece) (answer : Result (Option PartRead) StoreFault) →

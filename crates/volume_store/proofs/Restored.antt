@@ -1,7 +1,6 @@
 -- What a restore gave, by its answer, and the fit of a store behind a call that keeps its list.
-use Rattle.std.proofs.Common.{◌≡◌, ℕ, zero, suc, ◌-◌, ◌*◌, ◌<◌, ◌++◌, Bool, true, false, List, [], ◌∷◌, length, Option, Some, None, IfSome}
+use Rattle.std.proofs.Common.{◌≡◌, ℕ, zero, suc, ◌-◌, ◌<◌, ◌++◌, Bool, true, false, List, [], ◌∷◌, Option, Some, IfSome}
 use Rattle.std.proofs.Common.{Result, Ok, Err, refl, sym, ap, ◌∙◌, subst, arith, slice_get, append_assoc}
-use Rattle.std.proofs.lemmas.Option.{slice_get_past}
 use Rattle.cartridge_laws.specs.TableCells.{HasList}
 use Rattle.qic_base.specs.Cartridge.{Cartridge}
 use Rattle.qic_base.specs.Step.{Step}
@@ -10,20 +9,20 @@ use Rattle.qic_base.specs.TapeCalls.{Tells}
 use Rattle.qic_base.proofs.Steps.{Done-told}
 use Rattle.qic_base.specs.Acts.{Act, Outside, SinkFails, Parted, steps_of}
 use Rattle.qic_base.proofs.Joins.{steps_of-append}
-use Rattle.cartridge_spec.specs.Header.{Header}
-use Rattle.cartridge_spec.specs.Table.{Entry}
 use Rattle.cartridge_laws.specs.Table.{IsSoundList}
+use Rattle.cartridge_spec.specs.Table.{Entry}
 use Rattle.cartridge_spec.specs.Volumes.{carrying, volume_length}
 use Rattle.drive_states.specs.Unit.{UnitView}
 use Rattle.host_driver.specs.Calls.{Keeps}
-use Rattle.host_driver.specs.Fits.{segments_of}
+use Rattle.host_driver.specs.declared.host.Host.{Host}
 use Rattle.command_spec.specs.Restore.{Piece, GivingEnd, framed, pieces, pieces_of, volume_at}
+use Rattle.volume_output.specs.declared.extent.Extent.{Extent}
 use Rattle.volume_output.specs.Output.{GaveVolume, VolumeCut, OutputEnds}
 use Rattle.command_laws.specs.OutputText.{AreOf, printed}
-use Rattle.volume_store.specs.Mounting.{StoreView, StoreFits, KeepsStore}
-use Rattle.volume_store.specs.Restoring.{RestoreEnds}
+use Rattle.volume_store.specs.Mounting.{StoreView, StoreFits}
+use Rattle.volume_store.specs.Restoring.{FindsVolume, RestoreEnds}
 use Rattle.qic_base.specs.declared.store_fault.StoreFault.{StoreFault}
-use Rattle.volume_store.proofs.Storing.{one_length, still_primary, still_referenced}
+use Rattle.volume_store.proofs.Fitting.{fits_with}
 use Rattle.command_laws.proofs.OutputActsOfPieces.{no_step}
 use Rattle.command_laws.proofs.MountedFronts.{no_first}
 use Rattle.qic_base.specs.Sink as sinks
@@ -36,10 +35,6 @@ pub volume_there : (entries : List Entry) (number : ℕ) (e : Entry) → 0 < num
 volume_there entries zero e some at = absurd (omega arith)
 volume_there entries (suc n) e some at = let one : n ≡ suc n - 1 = omega arith in ap (slice_get entries) one ∙ at
 
-pub no_volume : (entries : List Entry) (number : ℕ) → (0 < number → length entries < number) → volume_at entries number ≡ None
-no_volume entries zero past = refl
-no_volume entries (suc n) past = let over : length entries < suc n = past (omega arith) in slice_get_past entries n (omega arith)
-
 length_is : (words : List ℕ) (bytes : ℕ) (at : Option Entry) (e : Entry) → at ≡ Some e →
     IfSome at (λ entry. bytes ≡ volume_length words entry) → bytes ≡ volume_length words e
 length_is words bytes at e is long = subst (λ (o : Option Entry). IfSome o (λ entry. bytes ≡ volume_length words entry)) is long
@@ -48,33 +43,44 @@ pub length_there : (store : StoreView) (i : ℕ) (e : Entry) (bytes : ℕ) → s
     IfSome (slice_get store.entries i) (λ entry. bytes ≡ volume_length store.words entry) → bytes ≡ volume_length store.words e
 length_there store i e bytes at long = length_is store.words bytes (slice_get store.entries i) e at long
 
--- a volume that is there, and its length
-pub volume_told : (store : StoreView) (number : ℕ) (e : Entry) (bytes : ℕ) → 0 < number → slice_get store.entries (number - 1) ≡ Some e →
-    IfSome (slice_get store.entries (number - 1)) (λ entry. bytes ≡ volume_length store.words entry) →
-    (volume_at store.entries number ≡ Some e) × (bytes ≡ volume_length store.words e)
-volume_told store number e bytes some at long =
-    (volume_there store.entries number e some at, length_there store (number - 1) e bytes at long)
-
 -- ---- what it gave
 
 module _ {T K : Type 0} (t : Meaning T) (k : sinks.Meaning K) (store : StoreView) (number : ℕ) (lined : Bool)
-    (old new : Outside T (Unit {0}) K) where
-  -- of its pieces
-  pub of_volume : (words : List ℕ) (e : Entry) (bytes : ℕ) (answer : Result (Unit {0}) StoreFault) → words ≡ store.words →
-      bytes ≡ volume_length store.words e →
-      OutputEnds t k words (pieces_of words (carrying words e.start e.end) bytes) lined old new answer →
-      OutputEnds t k store.words (pieces store.words e) lined old new answer
-  of_volume words e bytes answer same long ends =
-      subst (λ (n : ℕ). OutputEnds t k store.words (pieces_of store.words (carrying store.words e.start e.end) n) lined old new answer) long
-      (subst (λ (ws : List ℕ). OutputEnds t k ws (pieces_of ws (carrying ws e.start e.end) bytes) lined old new answer) same ends)
+    (old : Outside T (Unit {0}) K) where
+  -- where there is none
+  pub none_given : (why : StoreFault) → FindsVolume store number (Err why) → RestoreEnds t k store number lined old old (Err why)
+  none_given (fault.NoVolume asked count) finds =
+      record { none = finds.0; named = finds.1; counted = finds.2; tape = refl; sink = refl }
+  none_given f finds = absurd finds
 
-  pub restore_failed : (e : Entry) (why : StoreFault) → volume_at store.entries number ≡ Some e →
-      OutputEnds t k store.words (pieces store.words e) lined old new (Err why) → RestoreEnds t k store number lined old new (Err why)
-  restore_failed e (fault.Lost segment lost) at ends = (e, at, ends)
-  restore_failed e (fault.Mismatch segment) at ends = (e, at, ends)
-  restore_failed e fault.Sink at ends = (e, at, ends)
-  restore_failed e fault.Tape at ends = (e, at, ends)
-  restore_failed e f at ends = absurd ends
+  -- by the answer of the giving
+  module _ (new : Outside T (Unit {0}) K) (words : List ℕ) (volume : Extent) (same : words ≡ store.words)
+      (found : FindsVolume store number (Ok volume)) where
+    of_volume : (answer : Result (Unit {0}) StoreFault) →
+        OutputEnds t k words (pieces_of words (carrying words volume.start volume.end) volume.bytes) lined old new answer →
+        OutputEnds t k store.words (pieces store.words found.0) lined old new answer
+    of_volume answer ends =
+        subst (λ (v : Extent). OutputEnds t k store.words (pieces_of store.words (carrying store.words v.start v.end) v.bytes) lined old new
+        answer) found.2
+        (subst (λ (ws : List ℕ). OutputEnds t k ws (pieces_of ws (carrying ws volume.start volume.end) volume.bytes) lined old new answer)
+        same ends)
+
+    pub all_given : OutputEnds t k words (pieces_of words (carrying words volume.start volume.end) volume.bytes) lined old new (Ok tt) →
+        RestoreEnds t k store number lined old new (Ok volume.bytes)
+    all_given ends = (found.0, found.1, (ap (λ (v : Extent). v.bytes) found.2, of_volume (Ok tt) ends))
+
+    pub giving_failed : (why : StoreFault) →
+        OutputEnds t k words (pieces_of words (carrying words volume.start volume.end) volume.bytes) lined old new (Err why) →
+        RestoreEnds t k store number lined old new (Err why)
+    giving_failed why ends = by_fault why (of_volume (Err why) ends)
+      where
+        by_fault : (why : StoreFault) → OutputEnds t k store.words (pieces store.words found.0) lined old new (Err why) →
+            RestoreEnds t k store number lined old new (Err why)
+        by_fault (fault.Lost segment lost) ends = (found.0, found.1, ends)
+        by_fault (fault.Mismatch segment) ends = (found.0, found.1, ends)
+        by_fault fault.Sink ends = (found.0, found.1, ends)
+        by_fault fault.Tape ends = (found.0, found.1, ends)
+        by_fault f ends = absurd ends
 
 -- ---- the tape
 
@@ -123,23 +129,13 @@ module _ {T K : Type 0} (t : Meaning T) (k : sinks.Meaning K) (words : List ℕ)
   output_told (Err fault.Tape) ends other told = absurd (other refl)
   output_told (Err f) ends other told = absurd ends
 
--- ---- the store
+-- ---- the store, behind a call that was handed only its host and its workspace
 
-pub still_fits : {T : Type 0} (m : Meaning T) (store after : StoreView) (u v : UnitView T) → StoreFits m store u → KeepsStore store after →
-    Keeps m after.host u v →
-    Tells m v.tape (λ c. c.info.protected ≡ false → HasList c store.entries) → StoreFits m after v
-still_fits m store after u v fits same keeps told =
-    let one : segments_of store.host ≡ segments_of after.host =
-    one_length m store.host after.host u v fits.host keeps.ready.fits keeps.same.cartridge in
-    record {
-      host = keeps.ready.fits;
-      rest = keeps.ready.rest;
-      mode = still_primary u.drive.deck v.drive.deck keeps.same fits.mode;
-      referenced = still_referenced u.drive.deck v.drive.deck keeps.same fits.referenced;
-      agrees = keeps.agrees fits.agrees;
-      header = ap (λ (h : Header). h.segments_per_track) same.header ∙ fits.header ∙ one;
-      words = ap (λ (ws : List ℕ). length ws) same.words ∙ fits.words ∙ ap (λ (n : ℕ). 28 * n) one;
-      list = subst (λ (n : ℕ). IsSoundList (28 * n - 1) after.entries) one
-          (subst (IsSoundList (28 * segments_of store.host - 1)) (sym same.entries) fits.list);
-      volumes = subst (λ (es : List Entry). Tells m v.tape (λ c. c.info.protected ≡ false → HasList c es)) (sym same.entries) told;
-    }
+pub still_fits : {T : Type 0} (m : Meaning T) (view store : StoreView) (host : Host) (part : List (List ℕ)) (u v : UnitView T) →
+    view ≡ store → StoreFits m store u → Keeps m host u v →
+    Tells m v.tape (λ c. c.info.protected ≡ false → HasList c store.entries) →
+    StoreFits m (record { host = host; header = view.header; words = view.words; entries = view.entries; part = part }) v
+still_fits m view store host part u v is fits keeps told =
+    let was : StoreFits m view u = subst (λ (s : StoreView). StoreFits m s u) (sym is) fits in
+    fits_with m view u host v view.entries was keeps (subst (λ (n : ℕ). IsSoundList (n - 1) view.entries) (sym was.words) was.list)
+    (subst (λ (s : StoreView). Tells m v.tape (λ c. c.info.protected ≡ false → HasList c s.entries)) (sym is) told)

@@ -319,11 +319,6 @@ module _ {T S : Type 0} (t : tapes.Meaning T) (s : sources.Meaning S) (words : L
       subst (λ (n : ℕ). InputEnds t s words (free_segments words entries) n false old new answer) is
       (moved first most false answer at ends)
 
-  -- what was written is no more than there is room for
-  pub all_full : (written : Written) → HasWritten t s words (free_segments words entries) (room words entries) false old new written →
-      room words entries ≤ written.bytes → written.bytes ≡ room words entries
-  all_full written has least = let count = has.count in let few = has.within in omega arith
-
 module _ {T S : Type 0} (t : tapes.Meaning T) (s : sources.Meaning S) (words : List ℕ) (entries : List Entry) (x : T) (a : S) where
   nothing : (c : S) → s.faults c ≡ s.faults a → Went t s no_sink (reading x a) (reading x c) []
   nothing c later = record { did = Done-nothing t x; wrote = record { took = refl; later = omega arith }; source_later = later }
@@ -390,9 +385,19 @@ module _ {T S : Type 0} (t : tapes.Meaning T) (s : sources.Meaning S) (words : L
       }))
 
   -- ---- a byte more where all of the room was written
-  module _ (y : T) (b c : S) (some : 1 ≤ room words entries) (written : Written)
-      (has : HasWritten t s words (free_segments words entries) (room words entries) false (reading x a) (reading y b) written)
-      (full : written.bytes ≡ room words entries) (later : s.faults b ≤ s.faults c) where
+  module _ (y : T) (b c : S) (first have : ℕ) (at : first ≡ last_end entries + 1) (is : have ≡ room words entries) (any : 1 ≤ have)
+      (written : Written)
+      (ends : InputEnds t s words (carrying words first (length words - 1)) have false (reading x a) (reading y b) (Ok written))
+      (least : have ≤ written.bytes) (later : s.faults b ≤ s.faults c) where
+    some : 1 ≤ room words entries
+    some = omega arith
+
+    has : HasWritten t s words (free_segments words entries) (room words entries) false (reading x a) (reading y b) written
+    has = moved_all t s words entries (reading x a) (reading y b) first have (Ok written) at is ends
+
+    full : written.bytes ≡ room words entries
+    full = let count = has.count in let few = has.within in omega arith
+
     abbrev had : ℕ
     had = room words entries
 
@@ -435,19 +440,21 @@ module _ {T S : Type 0} (t : tapes.Meaning T) (s : sources.Meaning S) (words : L
         given [] none gave = Gave-end s a b c has.bytes has.gave gave
         given (e ∷ es) none gave = absurd (omega arith)
 
-    pub one_more : s.faults c ≡ s.faults b → (n : ℕ) → 1 ≤ n → Skips {E = Unit {0}} s b c 1 (Ok n) →
-        InputWent t s words entries None (reading x a) (reading y c) (TooLong (had + 1) had)
-    one_more stood n more skipped =
+    pub one_more : s.faults c ≡ s.faults b → (n : ℕ) → 1 ≤ n → Skips {E = Unit {0}} s b c 1 (Ok n) → (need left : ℕ) → need ≡ have →
+        left ≡ have → InputWent t s words entries None (reading x a) (reading y c) (TooLong (need + 1) left)
+    one_more stood n more skipped need left needs leaves =
         let got = skipped_as (s.left b) (s.left c) skipped.1.0 n skipped.0 skipped.1.1 skipped.1.2 in
         let one : n ≡ 1 = (let few : n ≤ 1 = skipped.0 in omega arith) in
         let all : length (has.bytes ++ got.0) ≡ had + 1 = length-append has.bytes got.0 ∙ ap (λ (k : ℕ). length has.bytes + k) (got.1 ∙ one)
         ∙ ap (λ (k : ℕ). k + 1) long_all in
         let beyond : had < length ((has.bytes ++ got.0) ++ input_of (s.left c)) =
         omega (arith, length-append (has.bytes ++ got.0) (input_of (s.left c))) in
-        went_with t s words entries (reading x a) (reading y c) None (has.bytes ++ got.0) (TooLong (had + 1) had) (all_given got.0 got.2)
+        subst (λ (k : ℕ). InputWent t s words entries None (reading x a) (reading y c) (TooLong (k + 1) left)) (sym (needs ∙ is))
+        (subst (λ (k : ℕ). InputWent t s words entries None (reading x a) (reading y c) (TooLong (had + 1) k)) (sym (leaves ∙ is))
+        (went_with t s words entries (reading x a) (reading y c) None (has.bytes ++ got.0) (TooLong (had + 1) had) (all_given got.0 got.2)
         (content_both (s.left a) (s.left b) (s.left c) has.bytes got.0 has.gave has.content got.3)
         (too_long had ((has.bytes ++ got.0) ++ input_of (s.left c)) beyond) (sym all)
-        (subst (Went t s no_sink (reading x a) (reading y c)) (writes_same got.0) (behind stood))
+        (subst (Went t s no_sink (reading x a) (reading y c)) (writes_same got.0) (behind stood))))
 
     pub more_fails : Rose (s.faults b) (s.faults c) → Skips {E = Unit {0}} s b c 1 (Err tt) →
         InputBroke t s words entries None (reading x a) (reading y c) SourceFails

@@ -6,6 +6,7 @@ use Rattle.command_spec.specs.Restore.{volume_at, Restored, LostIn, MismatchIn, 
 use Rattle.qic_base.specs.Acts.{Outside, TapeFails, SinkFails}
 use Rattle.qic_base.specs.Alone.{around}
 use Rattle.volume_output.specs.Output.{GaveVolume, VolumeCut}
+use Rattle.volume_output.specs.declared.extent.Extent.{Extent}
 use Rattle.volume_output.specs.Part.{OfPiece, ReadsPiece, LosesPiece, MismatchesPiece}
 use Rattle.volume_store.specs.Mounting.{StoreView}
 use Rattle.qic_base.specs.declared.store_fault.StoreFault.{StoreFault}
@@ -16,6 +17,14 @@ use Rattle.qic_base.specs.declared.store_fault.StoreFault.TheVariants as fault
 -- there is a volume of this number, and this is so of it
 abbrev pub OfVolume : StoreView → (number : ℕ) → (Entry → Type 0) → Type 0
 OfVolume store number P = (e : Entry) × (volume_at store.entries number ≡ Some e) × P e
+
+-- The bytes of a volume and the segments in which they lie, by the answer of the call.
+abbrev pub FindsVolume : StoreView → (number : ℕ) → Result Extent StoreFault → Type 0
+FindsVolume store number (Ok volume) =
+    OfVolume store number (λ e. volume ≡ record { start = e.start; end = e.end; bytes = volume_length store.words e })
+FindsVolume store number (Err (fault.NoVolume asked count)) =
+    (volume_at store.entries number ≡ None) × (asked ≡ number) × (count ≡ length store.entries)
+FindsVolume store number (Err fault) = ⊥
 
 -- there is none, and nothing was touched
 pub record NoneGiven {T K : Type 0} (store : StoreView) (asked : ℕ) (old new : Outside T (Unit {0}) K) (number count : ℕ) : Type 0 where

@@ -14,7 +14,7 @@ ghost use Rattle.header_segments.specs.Header.{header_of};
 ghost use Rattle.volume_output.specs.Form.{is_lined};
 ghost use Rattle.volume_store.specs.Appending.{AppendEnds, FaultsUnread, KeepsFormat, KeepsList, InOrder};
 ghost use Rattle.volume_store.specs.Mounting.{MountDoes, StoreFits, KeepsStore};
-ghost use Rattle.volume_store.specs.Restoring.{RestoreEnds, ReadsPart};
+ghost use Rattle.volume_store.specs.Restoring.{FindsVolume, RestoreEnds, ReadsPart};
 ghost use Rattle.volume_store.specs.Scrubbing.{MendEnds};
 ghost use Rattle.volume_table.specs.Entry.{entry_of};
 ghost use Rattle.cartridge_front.specs.Finding.{NamesCause, RefusesMounting};
@@ -179,6 +179,25 @@ impl Store {
         })
     }
 
+    /// The bytes of a volume, which is counted from 1, and the segments in which they lie; `NoVolume` where there is none.
+    fn volume(&self, number: u32) -> Result<Extent, StoreFault>
+        ensures found { FindsVolume self.now number result }
+        ensures on_tape { IfOk result (λ volume. volume.end < length self.now.words) }
+        ensures within { IfOk result (λ volume.
+            volume.bytes ≤ capacity_between self.now.words volume.start volume.end) }
+    {
+        let count = self.count();
+        if number == 0 || number > count {
+            return Err(StoreFault::NoVolume { number, count });
+        }
+        let entry = self.table.entry((number - 1) as u8);
+        Ok(Extent {
+            start: entry.start,
+            end: entry.end,
+            bytes: self.length(number - 1),
+        })
+    }
+
     /// Gives the bytes of a volume, counted from 1, segment by segment in this form, each once the whole segment
     /// agrees. The answer is the volume's length. `NoVolume` where there is none of this number; `Lost` or `Mismatch`
     /// at the first segment that holds some of its length and doesn't read, and what was given is then the data of the
@@ -197,17 +216,7 @@ impl Store {
         ensures fits { result ≢ Err StoreFault.Tape → StoreFits T.means self.new unit.new }
         ensures size { T.means.size unit.new.tape ≡ T.means.size unit.old.tape }
     {
-        let count = self.count();
-        if number == 0 || number > count {
-            return Err(StoreFault::NoVolume { number, count });
-        }
-        let length = self.length(number - 1);
-        let entry = self.entry(number - 1);
-        let volume = Extent {
-            start: entry.start,
-            end: entry.end,
-            bytes: length,
-        };
+        let volume = self.volume(number)?;
         give_volume(
             &mut self.host,
             unit,
@@ -217,7 +226,7 @@ impl Store {
             &mut self.work,
             sink,
         )?;
-        Ok(length)
+        Ok(volume.bytes)
     }
 
     /// Reads one piece of a volume, which is counted from 1: the part with this number, from 0, of its segments that hold
@@ -238,17 +247,7 @@ impl Store {
         ensures fits { StoreFits T.means self.new unit.new }
         ensures size { T.means.size unit.new.tape ≡ T.means.size unit.old.tape }
     {
-        let count = self.count();
-        if number == 0 || number > count {
-            return Err(StoreFault::NoVolume { number, count });
-        }
-        let length = self.length(number - 1);
-        let entry = self.entry(number - 1);
-        let volume = Extent {
-            start: entry.start,
-            end: entry.end,
-            bytes: length,
-        };
+        let volume = self.volume(number)?;
         let found = read_part(
             &mut self.host,
             unit,

@@ -1,6 +1,4 @@
 use Rattle.std.proofs.Common.{◌≡◌, Err, Ok, refl, take, sym, ap, ◌∙◌}
-use Rattle.header_segments.specs.Header.{header_of}
-use Rattle.volume_store.specs.Mounting.{StoreView}
 use Rattle.qic_base.specs.declared.store_fault.StoreFault.{StoreFault}
 use Rattle.qic_base.specs.declared.store_fault.StoreFault.TheVariants.{Tape}
 use Rattle.volume_store.proofs.BrokenUnread.{unread_first, unread_known}
@@ -14,17 +12,10 @@ use Rattle.volume_store.proofs.store.Store.append.Goals as goal
 pub returns-in_err-settle_again-clause-ends : goal.returns-in_err-settle_again-clause-ends
 returns-in_err-settle_again-clause-ends g c =
     let m = g.T.Tape.means in
-    let view : StoreView = record {
-      host = c.self.inside.host;
-      header = header_of c.self.inside.header;
-      words = c.self.inside.map;
-      entries = c.self.inside.table;
-      part = take c.self.inside.shown c.self.inside.work;
-    } in
-    let may = writable m view _ c.args.unit.now c.self.view_is c.requires.fits (sym c.protected.ensures ∙ c.if-protected.false) in
+    let may = writable m _ _ c.args.unit.now c.self.view_is c.requires.fits (sym c.protected.ensures ∙ c.if-protected.false) in
     let why : StoreFault = c.in_err-settle_again.field-0.0 in
-    let is : c.from_residual.result ≡ Err why = passed c.from_residual.result why c.from_residual.ensures.1 in
-    answered _ _ m g.S.Source.means _ _ view _ _ c.args.name.now c.args.date c.args.promised
+    let is = passed c.from_residual.result why c.from_residual.ensures.1 in
+    answered _ _ m g.S.Source.means _ _ _ _ _ c.args.name.now c.args.date c.args.promised
     (Err why) c.from_residual.result c.self.view_is is
     (settling_ends m g.S.Source.means may c.in_err-settle_again.ensures.keeps c.settle_again.new.work why c.in_err-settle_again.ensures.did
     (take c.self.inside.shown c.settle_again.new.work) c.args.name.now c.args.date c.args.promised c.args.source.now
@@ -33,18 +24,10 @@ returns-in_err-settle_again-clause-ends g c =
 pub returns-in_err-written-clause-ends : goal.returns-in_err-written-clause-ends
 returns-in_err-written-clause-ends g c =
     let m = g.T.Tape.means in
-    let view : StoreView = record {
-      host = c.self.inside.host;
-      header = header_of c.self.inside.header;
-      words = c.self.inside.map;
-      entries = c.self.inside.table;
-      part = take c.self.inside.shown c.self.inside.work;
-    } in
-    let may = writable m view _ c.args.unit.now c.self.view_is c.requires.fits (sym c.protected.ensures ∙ c.if-protected.false) in
+    let may = writable m _ _ c.args.unit.now c.self.view_is c.requires.fits (sym c.protected.ensures ∙ c.if-protected.false) in
     let why : StoreFault = c.in_err-written.field-0.0 in
-    let is : c.from_residual-in_err-written.result ≡ Err why =
-    passed c.from_residual-in_err-written.result why c.from_residual-in_err-written.ensures.1 in
-    answered _ _ m g.S.Source.means _ _ view _ _ c.args.name.now c.args.date c.args.promised
+    let is = passed c.from_residual-in_err-written.result why c.from_residual-in_err-written.ensures.1 in
+    answered _ _ m g.S.Source.means _ _ _ _ _ c.args.name.now c.args.date c.args.promised
     (Err why) c.from_residual-in_err-written.result c.self.view_is is
     (input_ends m g.S.Source.means may c.in_ok-settle_again.ensures.did c.in_ok-settle_again.ensures.keeps c.in_err-written.ensures.keeps
     (g.met.T.Tape.told_right c.take_input.new.unit.tape)
@@ -54,14 +37,7 @@ returns-in_err-written-clause-ends g c =
 pub invariant_of-self-in_err-add_entry : goal.invariant_of-self-in_err-add_entry
 invariant_of-self-in_err-add_entry g c =
     let m = g.T.Tape.means in
-    let view : StoreView = record {
-      host = c.self.inside.host;
-      header = header_of c.self.inside.header;
-      words = c.self.inside.map;
-      entries = c.self.inside.table;
-      part = take c.self.inside.shown c.self.inside.work;
-    } in
-    let may = writable m view _ c.args.unit.now c.self.view_is c.requires.fits (sym c.protected.ensures ∙ c.if-protected.false) in (
+    let may = writable m _ _ c.args.unit.now c.self.view_is c.requires.fits (sym c.protected.ensures ∙ c.if-protected.false) in (
       c.self.invariant.0,
       either_order m g.S.Source.means may c.in_ok-settle_again.ensures.did c.in_ok-settle_again.ensures.keeps c.in_ok-written.ensures.keeps
           (g.met.T.Tape.told_right c.take_input.new.unit.tape)
@@ -73,14 +49,7 @@ invariant_of-self-in_err-add_entry g c =
 pub invariant_of-self-2 : goal.invariant_of-self-2
 invariant_of-self-2 g c =
     let m = g.T.Tape.means in
-    let view : StoreView = record {
-      host = c.self.inside.host;
-      header = header_of c.self.inside.header;
-      words = c.self.inside.map;
-      entries = c.self.inside.table;
-      part = take c.self.inside.shown c.self.inside.work;
-    } in
-    let may = writable m view _ c.args.unit.now c.self.view_is c.requires.fits (sym c.protected.ensures ∙ c.if-protected.false) in (
+    let may = writable m _ _ c.args.unit.now c.self.view_is c.requires.fits (sym c.protected.ensures ∙ c.if-protected.false) in (
       c.self.invariant.0,
       either_order m g.S.Source.means may c.in_ok-settle_again.ensures.did c.in_ok-settle_again.ensures.keeps c.in_ok-written.ensures.keeps
           (g.met.T.Tape.told_right c.take_input.new.unit.tape)
@@ -92,18 +61,10 @@ invariant_of-self-2 g c =
 pub returns-in_err-add_entry-clause-ends : goal.returns-in_err-add_entry-clause-ends
 returns-in_err-add_entry-clause-ends g c =
     let m = g.T.Tape.means in
-    let view : StoreView = record {
-      host = c.self.inside.host;
-      header = header_of c.self.inside.header;
-      words = c.self.inside.map;
-      entries = c.self.inside.table;
-      part = take c.self.inside.shown c.self.inside.work;
-    } in
-    let may = writable m view _ c.args.unit.now c.self.view_is c.requires.fits (sym c.protected.ensures ∙ c.if-protected.false) in
+    let may = writable m _ _ c.args.unit.now c.self.view_is c.requires.fits (sym c.protected.ensures ∙ c.if-protected.false) in
     let why : StoreFault = c.in_err-add_entry.field-0.0 in
-    let is : c.from_residual-in_err-add_entry.result ≡ Err why =
-    passed c.from_residual-in_err-add_entry.result why c.from_residual-in_err-add_entry.ensures.1 in
-    answered _ _ m g.S.Source.means _ _ view _ _ c.args.name.now c.args.date c.args.promised
+    let is = passed c.from_residual-in_err-add_entry.result why c.from_residual-in_err-add_entry.ensures.1 in
+    answered _ _ m g.S.Source.means _ _ _ _ _ c.args.name.now c.args.date c.args.promised
     (Err why) c.from_residual-in_err-add_entry.result c.self.view_is is
     (entry_ends m g.S.Source.means may c.in_ok-settle_again.ensures.did c.in_ok-settle_again.ensures.keeps c.in_ok-written.ensures.keeps
     (g.met.T.Tape.told_right c.take_input.new.unit.tape)
@@ -116,15 +77,8 @@ returns-in_err-add_entry-clause-ends g c =
 pub returns-clause-ends : goal.returns-clause-ends
 returns-clause-ends g c =
     let m = g.T.Tape.means in
-    let view : StoreView = record {
-      host = c.self.inside.host;
-      header = header_of c.self.inside.header;
-      words = c.self.inside.map;
-      entries = c.self.inside.table;
-      part = take c.self.inside.shown c.self.inside.work;
-    } in
-    let may = writable m view _ c.args.unit.now c.self.view_is c.requires.fits (sym c.protected.ensures ∙ c.if-protected.false) in
-    answered _ _ m g.S.Source.means _ _ view _ _ c.args.name.now c.args.date c.args.promised (Ok _) _ c.self.view_is refl
+    let may = writable m _ _ c.args.unit.now c.self.view_is c.requires.fits (sym c.protected.ensures ∙ c.if-protected.false) in
+    answered _ _ m g.S.Source.means _ _ _ _ _ c.args.name.now c.args.date c.args.promised (Ok _) _ c.self.view_is refl
     (added_ends m g.S.Source.means may c.in_ok-settle_again.ensures.did c.in_ok-settle_again.ensures.keeps c.in_ok-written.ensures.keeps
     (g.met.T.Tape.told_right c.take_input.new.unit.tape)
     c.args.name.now c.args.date c.args.promised c.args.source.now c.take_input.new.source c.in_ok-written.written c.from.result
@@ -135,33 +89,18 @@ returns-clause-ends g c =
 pub returns-in_err-settle_again-clause-fits : goal.returns-in_err-settle_again-clause-fits
 returns-in_err-settle_again-clause-fits g c =
     let m = g.T.Tape.means in
-    let view : StoreView = record {
-      host = c.self.inside.host;
-      header = header_of c.self.inside.header;
-      words = c.self.inside.map;
-      entries = c.self.inside.table;
-      part = take c.self.inside.shown c.self.inside.work;
-    } in
-    let may = writable m view _ c.args.unit.now c.self.view_is c.requires.fits (sym c.protected.ensures ∙ c.if-protected.false) in
+    let may = writable m _ _ c.args.unit.now c.self.view_is c.requires.fits (sym c.protected.ensures ∙ c.if-protected.false) in
     let why : StoreFault = c.in_err-settle_again.field-0.0 in
-    let is : c.from_residual.result ≡ Err why = passed c.from_residual.result why c.from_residual.ensures.1 in
+    let is = passed c.from_residual.result why c.from_residual.ensures.1 in
     λ sound. settling_fits m g.S.Source.means may c.in_err-settle_again.ensures.keeps c.settle_again.new.work why
     c.in_err-settle_again.ensures.did (λ e. sound (is ∙ ap Err e))
 
 pub returns-in_err-written-clause-fits : goal.returns-in_err-written-clause-fits
 returns-in_err-written-clause-fits g c =
     let m = g.T.Tape.means in
-    let view : StoreView = record {
-      host = c.self.inside.host;
-      header = header_of c.self.inside.header;
-      words = c.self.inside.map;
-      entries = c.self.inside.table;
-      part = take c.self.inside.shown c.self.inside.work;
-    } in
-    let may = writable m view _ c.args.unit.now c.self.view_is c.requires.fits (sym c.protected.ensures ∙ c.if-protected.false) in
+    let may = writable m _ _ c.args.unit.now c.self.view_is c.requires.fits (sym c.protected.ensures ∙ c.if-protected.false) in
     let why : StoreFault = c.in_err-written.field-0.0 in
-    let is : c.from_residual-in_err-written.result ≡ Err why =
-    passed c.from_residual-in_err-written.result why c.from_residual-in_err-written.ensures.1 in
+    let is = passed c.from_residual-in_err-written.result why c.from_residual-in_err-written.ensures.1 in
     λ sound. input_fits m g.S.Source.means may c.in_ok-settle_again.ensures.did c.in_ok-settle_again.ensures.keeps
     c.in_err-written.ensures.keeps (g.met.T.Tape.told_right c.take_input.new.unit.tape)
     c.args.promised c.args.source.now c.take_input.new.source why c.in_err-written.ensures.ends (λ e. sound (is ∙ ap Err e))
@@ -169,17 +108,9 @@ returns-in_err-written-clause-fits g c =
 pub returns-in_err-add_entry-clause-fits : goal.returns-in_err-add_entry-clause-fits
 returns-in_err-add_entry-clause-fits g c =
     let m = g.T.Tape.means in
-    let view : StoreView = record {
-      host = c.self.inside.host;
-      header = header_of c.self.inside.header;
-      words = c.self.inside.map;
-      entries = c.self.inside.table;
-      part = take c.self.inside.shown c.self.inside.work;
-    } in
-    let may = writable m view _ c.args.unit.now c.self.view_is c.requires.fits (sym c.protected.ensures ∙ c.if-protected.false) in
+    let may = writable m _ _ c.args.unit.now c.self.view_is c.requires.fits (sym c.protected.ensures ∙ c.if-protected.false) in
     let why : StoreFault = c.in_err-add_entry.field-0.0 in
-    let is : c.from_residual-in_err-add_entry.result ≡ Err why =
-    passed c.from_residual-in_err-add_entry.result why c.from_residual-in_err-add_entry.ensures.1 in
+    let is = passed c.from_residual-in_err-add_entry.result why c.from_residual-in_err-add_entry.ensures.1 in
     λ sound. entry_fits m g.S.Source.means may c.in_ok-settle_again.ensures.did c.in_ok-settle_again.ensures.keeps
     c.in_ok-written.ensures.keeps (g.met.T.Tape.told_right c.take_input.new.unit.tape)
     c.args.name.now c.args.date c.args.promised c.args.source.now c.take_input.new.source c.in_ok-written.written c.from.result
@@ -190,14 +121,7 @@ returns-in_err-add_entry-clause-fits g c =
 pub returns-clause-fits : goal.returns-clause-fits
 returns-clause-fits g c =
     let m = g.T.Tape.means in
-    let view : StoreView = record {
-      host = c.self.inside.host;
-      header = header_of c.self.inside.header;
-      words = c.self.inside.map;
-      entries = c.self.inside.table;
-      part = take c.self.inside.shown c.self.inside.work;
-    } in
-    let may = writable m view _ c.args.unit.now c.self.view_is c.requires.fits (sym c.protected.ensures ∙ c.if-protected.false) in
+    let may = writable m _ _ c.args.unit.now c.self.view_is c.requires.fits (sym c.protected.ensures ∙ c.if-protected.false) in
     λ sound. added_fits m g.S.Source.means may c.in_ok-settle_again.ensures.did c.in_ok-settle_again.ensures.keeps
     c.in_ok-written.ensures.keeps (g.met.T.Tape.told_right c.take_input.new.unit.tape)
     c.args.name.now c.args.date c.args.promised c.args.source.now c.take_input.new.source c.in_ok-written.written c.from.result
@@ -208,7 +132,7 @@ returns-clause-fits g c =
 pub returns-in_err-settle_again-clause-unread : goal.returns-in_err-settle_again-clause-unread
 returns-in_err-settle_again-clause-unread g c =
     let why : StoreFault = c.in_err-settle_again.field-0.0 in
-    let is : c.from_residual.result ≡ Err why = passed c.from_residual.result why c.from_residual.ensures.1 in
+    let is = passed c.from_residual.result why c.from_residual.ensures.1 in
     unread_first g.T.Tape.means g.S.Source.means c.args.unit.now.tape c.settle_again.new.unit.tape c.args.source.now why
     c.from_residual.result is
     c.in_err-settle_again.ensures.unread c.in_err-settle_again.ensures.kind
@@ -224,53 +148,30 @@ returns-in_err-add_entry-clause-unread g c =
 pub returns-in_err-settle_again-clause-order : goal.returns-in_err-settle_again-clause-order
 returns-in_err-settle_again-clause-order g c =
     let m = g.T.Tape.means in
-    let view : StoreView = record {
-      host = c.self.inside.host;
-      header = header_of c.self.inside.header;
-      words = c.self.inside.map;
-      entries = c.self.inside.table;
-      part = take c.self.inside.shown c.self.inside.work;
-    } in
     let why : StoreFault = c.in_err-settle_again.field-0.0 in
-    let is : c.from_residual.result ≡ Err why = passed c.from_residual.result why c.from_residual.ensures.1 in
-    ordered m g.S.Source.means _ _ view _ c.args.promised (Err why) c.from_residual.result c.self.view_is is
-    (settling_order m g.S.Source.means view c.args.promised c.args.unit.now.tape c.settle_again.new.unit.tape c.args.source.now
+    let is = passed c.from_residual.result why c.from_residual.ensures.1 in
+    ordered c.self.view_is is
+    (settling_order m g.S.Source.means _ c.args.promised c.args.unit.now.tape c.settle_again.new.unit.tape c.args.source.now
     c.settle_again.new.work why
     c.in_err-settle_again.ensures.did c.in_err-settle_again.ensures.kind)
 
 pub returns-in_err-written-clause-order : goal.returns-in_err-written-clause-order
 returns-in_err-written-clause-order g c =
     let m = g.T.Tape.means in
-    let view : StoreView = record {
-      host = c.self.inside.host;
-      header = header_of c.self.inside.header;
-      words = c.self.inside.map;
-      entries = c.self.inside.table;
-      part = take c.self.inside.shown c.self.inside.work;
-    } in
     let why : StoreFault = c.in_err-written.field-0.0 in
-    let is : c.from_residual-in_err-written.result ≡ Err why =
-    passed c.from_residual-in_err-written.result why c.from_residual-in_err-written.ensures.1 in
-    ordered m g.S.Source.means _ _ view _ c.args.promised (Err why) c.from_residual-in_err-written.result c.self.view_is is
-    (input_order m g.S.Source.means view c.args.promised c.args.unit.now.tape c.settle_again.new.unit.tape c.take_input.new.unit.tape
+    let is = passed c.from_residual-in_err-written.result why c.from_residual-in_err-written.ensures.1 in
+    ordered c.self.view_is is
+    (input_order m g.S.Source.means _ c.args.promised c.args.unit.now.tape c.settle_again.new.unit.tape c.take_input.new.unit.tape
     c.args.source.now c.take_input.new.source _
     c.in_ok-settle_again.ensures.did why c.in_err-written.ensures.ends c.in_err-written.ensures.asked)
 
 pub returns-in_err-add_entry-clause-order : goal.returns-in_err-add_entry-clause-order
 returns-in_err-add_entry-clause-order g c =
     let m = g.T.Tape.means in
-    let view : StoreView = record {
-      host = c.self.inside.host;
-      header = header_of c.self.inside.header;
-      words = c.self.inside.map;
-      entries = c.self.inside.table;
-      part = take c.self.inside.shown c.self.inside.work;
-    } in
     let why : StoreFault = c.in_err-add_entry.field-0.0 in
-    let is : c.from_residual-in_err-add_entry.result ≡ Err why =
-    passed c.from_residual-in_err-add_entry.result why c.from_residual-in_err-add_entry.ensures.1 in
-    ordered m g.S.Source.means _ _ view _ c.args.promised (Err why) c.from_residual-in_err-add_entry.result c.self.view_is is
-    (entry_order m g.S.Source.means view c.args.promised c.args.unit.now.tape c.settle_again.new.unit.tape c.take_input.new.unit.tape
+    let is = passed c.from_residual-in_err-add_entry.result why c.from_residual-in_err-add_entry.ensures.1 in
+    ordered c.self.view_is is
+    (entry_order m g.S.Source.means _ c.args.promised c.args.unit.now.tape c.settle_again.new.unit.tape c.take_input.new.unit.tape
     c.args.source.now c.take_input.new.source _
     c.in_ok-settle_again.ensures.did c.add_entry.new.unit.tape c.in_ok-written.written c.in_ok-written.ensures.ends
     c.in_ok-written.ensures.asked why c.in_err-add_entry.ensures.kind)
@@ -278,15 +179,8 @@ returns-in_err-add_entry-clause-order g c =
 pub returns-clause-order : goal.returns-clause-order
 returns-clause-order g c =
     let m = g.T.Tape.means in
-    let view : StoreView = record {
-      host = c.self.inside.host;
-      header = header_of c.self.inside.header;
-      words = c.self.inside.map;
-      entries = c.self.inside.table;
-      part = take c.self.inside.shown c.self.inside.work;
-    } in
-    ordered m g.S.Source.means _ _ view _ c.args.promised (Ok _) _ c.self.view_is refl
-    (added_order m g.S.Source.means view c.args.promised c.args.unit.now.tape c.settle_again.new.unit.tape c.take_input.new.unit.tape
+    ordered c.self.view_is refl
+    (added_order m g.S.Source.means _ c.args.promised c.args.unit.now.tape c.settle_again.new.unit.tape c.take_input.new.unit.tape
     c.args.source.now c.take_input.new.source _
     c.in_ok-settle_again.ensures.did c.add_entry.new.unit.tape c.in_ok-written.written c.in_ok-written.ensures.ends
     c.in_ok-written.ensures.asked _)

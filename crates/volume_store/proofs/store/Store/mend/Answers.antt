@@ -1,9 +1,8 @@
-use Rattle.std.proofs.Common.{◌≡◌, ◌-◌, List, length, take, Bool, true, false, sym, ap, ◌∙◌, subst}
+use Rattle.std.proofs.Common.{◌≡◌, ◌-◌, List, length, Bool, true, false, sym, ap, ◌∙◌, subst}
 use Rattle.cartridge_laws.specs.TableCells.{HasList}
 use Rattle.qic_base.specs.Alone.{around}
 use Rattle.cartridge_spec.specs.Table.{Entry}
 use Rattle.drive_spec.specs.Terms.{is_protected}
-use Rattle.header_segments.specs.Header.{header_of}
 use Rattle.host_driver.specs.Fits.{deck_of}
 use Rattle.qic_base.specs.TapeCalls.{Tells}
 use Rattle.segment_mending.specs.Mending.{ScrubEnds}
@@ -30,18 +29,7 @@ returns-clause-fits g c = λ other.
     let behind : Tells m c.scrub_segments.new.unit.tape (λ c'. c'.info.protected ≡ false → HasList c' table) =
     scrub_lists m k c.args.depth map table (length map - 1) c.self.invariant.1 a b c.scrub_segments.result c.scrub_segments.ensures.ends
     other right there before in
-    let after : StoreView = record {
-      host = c.scrub_segments.new.host;
-      header = header_of c.self.inside.header;
-      words = map;
-      entries = table;
-      part = take c.self.inside.shown c.scrub_segments.new.work;
-    } in
-    still_fits m store after c.args.unit.now c.scrub_segments.new.unit c.requires.fits (record {
-      header = ap (λ (v : StoreView). v.header) c.self.view_is;
-      words = ap (λ (v : StoreView). v.words) c.self.view_is;
-      entries = same;
-    }) c.scrub_segments.ensures.keeps
+    still_fits m _ store _ _ c.args.unit.now _ c.self.view_is c.requires.fits c.scrub_segments.ensures.keeps
     (subst (λ (es : List Entry). Tells m c.scrub_segments.new.unit.tape (λ c'. c'.info.protected ≡ false → HasList c' es)) same behind)
 
 pub returns-clause-ends : goal.returns-clause-ends
