@@ -358,11 +358,11 @@ module _ {T K : Type 0} (t : tapes.Meaning T) (k : sinks.Meaning K) where
       told_both t k both header_copies (whole_segment 2 ∷ []) a b c before between after header.lines lines
 
   -- .. by what the host has learnt
-  pub begun : (known : Host) (u : UnitView T) (x : K) (host : Host) (v : UnitView T) (y : K) (words : List ℕ) (before between : Tally) →
-      Fits t known u → AgreesWithTape t u → is_referenced u.drive.deck ≡ true → Keeps t host u v →
+  pub begun : {known host : Host} {u v : UnitView T} {x y : K} {words : List ℕ} {before between : Tally} → Fits t known u →
+      AgreesWithTape t u → is_referenced u.drive.deck ≡ true → Keeps t host u v →
       HasHeader t k words (around u.tape x) (around v.tape y) before between →
       Begun t k host words (around u.tape x) (around v.tape y) before between
-  begun known u x host v y words before between fits agrees referenced keeps header = record {
+  begun {known} {host} {u} {v} {x} {y} fits agrees referenced keeps header = record {
     there = is_held t known u true fits agrees referenced;
     learnt = Tells-read (IsLearnt host)
         (only_read t k header_copies header.lines.verdicts (around u.tape x) (around v.tape y) header.lines.went)
@@ -447,7 +447,7 @@ module _ {T K : Type 0} (t : tapes.Meaning T) (k : sinks.Meaning K) where
         (tells_two t a.tape (IsLearnt host) (HasSomeFormat words) Known (λ d one two. (one, two)) first.learnt first.header.format)
         (Tells-read Reads (only_read t k header_copies first.header.lines.verdicts a b first.header.lines.went) table.volumes)
 
-    pub front_done : TakesBoth k → HasTable t k (28 * segments_of host - 1) sectors entries b c between after →
+    front_done : TakesBoth k → HasTable t k (28 * segments_of host - 1) sectors entries b c between after →
         InFront t k words (take 29 sectors) entries a c before after
     front_done both table = record {
       there = first.there;
@@ -455,10 +455,20 @@ module _ {T K : Type 0} (t : tapes.Meaning T) (k : sinks.Meaning K) where
       mounts = front_mounts table;
     }
 
+  -- the header and the table were read, by what the host has learnt
+  pub front_read : (c : Outside T (Unit {0}) K) {known host : Host} {u v : UnitView T} {x y : K} {words : List ℕ}
+      {sectors : List (List ℕ)} {entries : List Entry} {before between after : Tally} → Fits t known u → AgreesWithTape t u →
+      is_referenced u.drive.deck ≡ true → Keeps t host u v → HasHeader t k words (around u.tape x) (around v.tape y) before between →
+      TakesBoth k → HasTable t k (28 * segments_of host - 1) sectors entries (around v.tape y) c between after →
+      InFront t k words (take 29 sectors) entries (around u.tape x) c before after
+  front_read c {known} {host} {u} {v} {x} {y} {words} {sectors} {entries} fits agrees referenced keeps header both table =
+      front_done host words sectors entries (around u.tape x) (around v.tape y) c _ _ _
+      (begun fits agrees referenced keeps header) both table
+
   -- ---- the volumes and the counts
 
-  module _ (words : List ℕ) (table : List (List ℕ)) (entries : List Entry) (a b c : Outside T (Unit {0}) K)
-      (none between : Tally) (front : InFront t k words table entries a b none between) where
+  module _ (b c : Outside T (Unit {0}) K) {words : List ℕ} {table : List (List ℕ)} {entries : List Entry}
+      {a : Outside T (Unit {0}) K} {none between : Tally} (front : InFront t k words table entries a b none between) where
     pub volumes_failed : (after : Tally) (why : CheckFault) → TakesBoth k →
         TellsAll t k (looked_volumes words entries) b c between after (Err why) → CheckFails t k a c why
     volumes_failed after fault.Sink both cut =
@@ -469,11 +479,12 @@ module _ {T K : Type 0} (t : tapes.Meaning T) (k : sinks.Meaning K) where
         (told_then_cut t k both in_front (looked_volumes words entries) a b c none between TapeFails front.lines cut)
     volumes_failed after why both cut = absurd cut
 
-    pub all_told : (tally : Tally) → TakesBoth k → HasTold t k (looked_volumes words entries) b c between tally →
-        HasTold t k (looked_at words entries) a c none tally
-    all_told tally both lines = told_both t k both in_front (looked_volumes words entries) a b c none between tally front.lines lines
+    module _ (tally : Tally) (few : HasFew 0 none) (both : TakesBoth k)
+        (told : HasTold t k (looked_volumes words entries) b c between tally) where
+      -- the lines of all segments went
+      abbrev lines : HasTold t k (looked_at words entries) a c none tally
+      lines = told_both t k both in_front (looked_volumes words entries) a b c none between tally front.lines told
 
-    module _ (tally : Tally) (few : HasFew 0 none) (lines : HasTold t k (looked_at words entries) a c none tally) where
       abbrev all : List Looked
       all = looked_at words entries
 
@@ -532,9 +543,9 @@ module _ {T K : Type 0} (t : tapes.Meaning T) (k : sinks.Meaning K) where
           let bad : tally.bad ≡ count_by is_bad vs = (let e = lines.counted.bad in omega arith) in
           omega arith
 
-      pub counts_written : length (looked_at words entries) ≤ 28 * LONGEST → TakesBoth k → (y : K) →
-          sinks.Wrote k c.sink y (tally_line tally) → HasChecked t k a (around c.tape y) tally
-      counts_written seen both y wrote =
+      pub counts_written : length (looked_at words entries) ≤ 28 * LONGEST → (y : K) → sinks.Wrote k c.sink y (tally_line tally) →
+          HasChecked t k a (around c.tape y) tally
+      counts_written seen y wrote =
           let went : Went t no_source k c (around c.tape y) (last ∷ []) = record {
             did = Done-nothing t c.tape;
             wrote = subst (sinks.Wrote k c.sink y) (counts_are ∙ sym (append-nil (check_line (length all) vs))) wrote;
@@ -554,9 +565,8 @@ module _ {T K : Type 0} (t : tapes.Meaning T) (k : sinks.Meaning K) where
             few = few_counted seen;
           }
 
-      pub counts_cut : TakesBoth k → (y : K) → sink_calls.BrokeOff k c.sink y (tally_line tally) →
-          CheckCut t k a (around c.tape y) SinkFails
-      counts_cut both y broke =
+      pub counts_cut : (y : K) → sink_calls.BrokeOff k c.sink y (tally_line tally) → CheckCut t k a (around c.tape y) SinkFails
+      counts_cut y broke =
           let cut : Cut t no_source k c (around c.tape y) (last ∷ []) SinkFails =
           sink_cut_one t no_source k c (around c.tape y) last (Done-nothing t c.tape)
           (subst (sink_calls.BrokeOff k c.sink y) counts_are broke) (omega arith) in
