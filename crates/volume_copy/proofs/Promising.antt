@@ -45,6 +45,10 @@ pub no_words : {X : Type 0} (f : X → List ℕ) (items : List X) (n : ℕ) → 
 no_words f [] n long test = refl
 no_words f (x ∷ xs) n long test = let zero : n ≡ 0 = eqb-true n 0 test in absurd (omega (arith, long, zero))
 
+-- there are some, and the answer says so
+pub usage_is : (words : List (List ℕ)) → words ≢ [] → (status.Usage ≡ status.Usage) ↔ (words ≢ [])
+usage_is words some = ((λ is. some), (λ other. refl))
+
 -- there are none, and another answer
 pub usage_not : (answer : CopyStatus) (words : List (List ℕ)) → answer ≢ status.Usage → words ≡ [] → (answer ≡ status.Usage) ↔ (words ≢ [])
 usage_not answer words other none = ((λ is. absurd (other is)), (λ some. absurd (some none)))
