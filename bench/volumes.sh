@@ -12,6 +12,7 @@
 # of a processor, the most resident memory that a run took, and how many times the bare calls' seconds on the wall
 # the first is, or the bytes a second. The variable TAPE may name another build of the program than ./tape's.
 set -euo pipefail
+export LC_ALL=C
 runs=${1:-5}
 bytes=${2:-60000000}
 folders=("${@:3}")
@@ -126,13 +127,22 @@ bare() {
     "$base/volumes" replay "$base/list.$1" "$room/image" 3>> "$room/figures.bare_$1"
 }
 
+# A command over an image, its bare calls and all its calls, the first of them another one from run to run: what one leaves to the
+# system the next may wait for.
+in_turn() {
+    for ((turn = run; turn < run + 3; turn++)); do
+        fresh "$2"
+        case $((turn % 3)) in
+            0) timed "$1" "$program" "$room/image" "${@:3}" < "$room/input" ;;
+            1) bare "$1" ;;
+            2) bare "$1_all" < "$room/input" ;;
+        esac
+    done
+}
+
 round() {
-    fresh blank.img; timed format "$program" "$room/image" format L
-    fresh blank.img; bare format
-    fresh blank.img; bare format_all
-    fresh formatted.img; timed append "$program" "$room/image" append v < "$room/input"
-    fresh formatted.img; bare append
-    fresh formatted.img; bare append_all < "$room/input"
+    in_turn format blank.img format L
+    in_turn append formatted.img append v
     fresh whole.img; timed restore "$program" "$room/image" restore 1
     bare restore_all
     timed check "$program" "$room/image" check
@@ -155,18 +165,22 @@ memory() {
     awk '$3 > most { most = $3 } END { print most }' "$room/figures.$1"
 }
 
+# How many times the seconds of one the other took: by the medians, and the median of that round by round, which wavers less.
+ratios() {
+    paste "$room/figures.$1" "$room/figures.$2" | awk '{ print $1 / $4 }' | sort -n | awk -v ours="$(median "$1" 1)" -v bare="$(median "$2" 1)" '
+        { at[NR] = $1 }
+        END { printf "bare %9.3f s, ratio %.3f, by rounds %.3f\n", bare, ours / bare, at[int((NR + 1) / 2)] }'
+}
+
 of_bare() {
-    awk -v ours="$(median "$1" 1)" -v used="$(median "$1" 2)" -v bare="$(median "bare_$1" 1)" -v memory="$(memory "$1")" \
-        -v name="$1" 'BEGIN {
-            printf "%-32s %9.3f s %9.3f s %6d kB   bare %9.3f s, ratio %.2f\n", name, ours, used, memory, bare, ours / bare
-        }'
+    printf '%-32s %9.3f s %9.3f s %6d kB   ' "$1" "$(median "$1" 1)" "$(median "$1" 2)" "$(memory "$1")"
+    ratios "$1" "bare_$1"
 }
 
 # A command's seconds as times of those of all its calls.
 of_all() {
-    awk -v ours="$(median "$1" 1)" -v bare="$(median "bare_$1_all" 1)" 'BEGIN {
-        printf "%-32s %32s bare %9.3f s, ratio %.2f\n", "  beside its reads, too", "", bare, ours / bare
-    }'
+    printf '%-67s' '  beside its reads, too'
+    ratios "$1" "bare_$1_all"
 }
 
 of_bytes() {
