@@ -7,6 +7,8 @@
  *     volumes replay LIST FILE      makes on a file the calls of a list, a line each, with bytes of no
  *                                   meaning, and writes the same of that, with 0 for the memory. The start
  *                                   of the process counts in a command's seconds, and not in these
+ *     volumes append LIST FILE      the same, with the work of an append: what is read of standard input is
+ *                                   a segment's data, gets its parity, and is what is written
  *
  * What wait4 tells of the memory misses up to a tenth of a megabyte: the system counts pages by processor, and adds
  * them up later. It adds them for /proc/PID/status, which is read as the command exits.
@@ -137,6 +139,31 @@ static struct call *read_calls(const char *path, long *count)
     return calls;
 }
 
+static unsigned char sectors[32][1024];
+
+/* Puts the parity of 29 sectors behind them: the remainder of a division by a polynomial with the coefficients 1, 0xC0, 0xC0 and 1.
+ * 0xC0 times a value is the sum of 2, 1 and 0xC3 times it, and 0xC3 is the inverse of 2. */
+static void put_parity(void)
+{
+    enum { COLUMNS = 128 };
+    for (int column = 0; column < 1024; column += COLUMNS) {
+        unsigned char low[COLUMNS] = {0}, middle[COLUMNS] = {0}, high[COLUMNS] = {0};
+        for (int sector = 0; sector < 29; sector++)
+            for (int i = 0; i < COLUMNS; i++) {
+                unsigned char back = sectors[sector][column + i] ^ high[i];
+                unsigned char twice = back << 1 ^ (back & 0x80 ? 0x87 : 0);
+                unsigned char half = back >> 1 ^ (back & 1 ? 0xC3 : 0);
+                unsigned char product = twice ^ back ^ half;
+                high[i] = middle[i] ^ product;
+                middle[i] = low[i] ^ product;
+                low[i] = back;
+            }
+        memcpy(sectors[29] + column, high, COLUMNS);
+        memcpy(sectors[30] + column, middle, COLUMNS);
+        memcpy(sectors[31] + column, low, COLUMNS);
+    }
+}
+
 static int make(int file, const struct call *call, unsigned char *bytes)
 {
     switch (call->kind) {
@@ -155,7 +182,23 @@ static int make(int file, const struct call *call, unsigned char *bytes)
     }
 }
 
-static int replay(const char *list, const char *path)
+/* A call of an append: a segment's sectors are written in their order, behind the reading of their data. */
+static int append(int file, const struct call *call, unsigned char *bytes)
+{
+    static int next;
+    if (call->kind == TAKE && call->count <= 29 * 1024) {
+        if (read(0, sectors, call->count) < 0)
+            return -1;
+        put_parity();
+        next = 0;
+        return 0;
+    }
+    if (call->kind == WRITE && call->count == 1024)
+        return pwrite(file, sectors[next++ % 32], 1024, call->place) == 1024 ? 0 : -1;
+    return make(file, call, bytes);
+}
+
+static int replay(const char *list, const char *path, int (*call)(int, const struct call *, unsigned char *))
 {
     static unsigned char bytes[LONGEST];
     struct rusage before, after;
@@ -168,7 +211,7 @@ static int replay(const char *list, const char *path)
     getrusage(RUSAGE_SELF, &before);
     double start = now();
     for (long i = 0; i < count; i++)
-        if (make(file, calls + i, bytes) != 0)
+        if (call(file, calls + i, bytes) != 0)
             fail(path);
     double seconds = now() - start;
     getrusage(RUSAGE_SELF, &after);
@@ -181,7 +224,9 @@ int main(int count, char **words)
     if (count >= 3 && strcmp(words[1], "run") == 0)
         return run(words + 2);
     if (count == 4 && strcmp(words[1], "replay") == 0)
-        return replay(words[2], words[3]);
-    fputs("usage: volumes run COMMAND .. | volumes replay LIST FILE, with descriptor 3 for what is measured\n", stderr);
+        return replay(words[2], words[3], make);
+    if (count == 4 && strcmp(words[1], "append") == 0)
+        return replay(words[2], words[3], append);
+    fputs("usage: volumes run COMMAND .. | volumes replay|append LIST FILE, with descriptor 3 for what is measured\n", stderr);
     return 2;
 }

@@ -1,9 +1,9 @@
 #!/usr/bin/env bash
-# Times format, append and restore of one volume on a cartridge of 100 segments per track, a file on a disk and
-# one in memory: beside the bare writes and syncs of the same places in the same order, beside these and the reads of
-# the image and of the input, beside cp of the image, and beside tar into a file with one sync.
-# Restore also with three lost sectors in each segment of the volume, and check of the same images. And upgrade of
-# an image of version 1 with that volume, beside cp of it with one sync.
+# Times format, append and restore of one volume on a cartridge of 100 segments per track, a file on a disk and one in memory: beside
+# the bare writes and syncs of the same places in the same order, beside these and the reads of the image and of the input, an append
+# also beside an append in C, which makes these calls and the parity, beside cp of the image, and beside tar into a file with one sync.
+# Restore also with three lost sectors in each segment of the volume, and check of the same images. And upgrade of an image of version 1
+# with that volume, beside cp of it with one sync.
 #
 #     bench/volumes.sh [RUNS [BYTES [FOLDER ..]]]
 #
@@ -49,7 +49,7 @@ else
     "$top/tape" </dev/null >/dev/null || [ $? = 2 ]
     program=$top/out/bin/tape
 fi
-gcc -O2 -o "$base/volumes" "$top/bench/volumes.c"
+gcc -O3 -march=native -o "$base/volumes" "$top/bench/volumes.c"
 
 # Runs the program under strace, and leaves its reads, writes and syncs in the file $base/calls.NAME.
 traced() {
@@ -127,15 +127,17 @@ bare() {
     "$base/volumes" replay "$base/list.$1" "$room/image" 3>> "$room/figures.bare_$1"
 }
 
-# A command over an image, its bare calls and all its calls, the first of them another one from run to run: what one leaves to the
-# system the next may wait for.
+# A command over an image, its bare calls, all its calls, and an append in C, the first of them another one from run to run: what one
+# leaves to the system the next may wait for.
 in_turn() {
-    for ((turn = run; turn < run + 3; turn++)); do
+    for ((turn = run; turn < run + 4; turn++)); do
         fresh "$2"
-        case $((turn % 3)) in
+        case $((turn % 4)) in
             0) timed "$1" "$program" "$room/image" "${@:3}" < "$room/input" ;;
             1) bare "$1" ;;
             2) bare "$1_all" < "$room/input" ;;
+            3) [ "$1" != append ] || "$base/volumes" append "$base/list.append_all" "$room/image" \
+                < "$room/input" 3>> "$room/figures.in_c" ;;
         esac
     done
 }
@@ -207,6 +209,8 @@ for folder in "${folders[@]}"; do
     of_all format
     of_bare append
     of_all append
+    printf '%-67s' '  beside an append in C'
+    ratios append in_c
     of_bare upgrade
     of_bytes restore "$bytes" restore
     of_bytes bare_restore_all "$bytes" '  its reads alone'
