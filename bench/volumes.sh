@@ -167,7 +167,7 @@ memory() {
     awk '$3 > most { most = $3 } END { print most }' "$room/figures.$1"
 }
 
-# How many times the seconds of one the other took: by the medians, and the median of that round by round, which wavers less.
+# How many times the seconds of the second the first took: by the medians, and the median of that round by round, which wavers less.
 ratios() {
     paste "$room/figures.$1" "$room/figures.$2" | awk '{ print $1 / $4 }' | sort -n | awk -v ours="$(median "$1" 1)" -v bare="$(median "$2" 1)" '
         { at[NR] = $1 }
