@@ -1,31 +1,29 @@
 #!/usr/bin/env bash
-# Hands its words on to the program. Where that isn't built, or anything that it is made of has changed since, make builds it first.
-# A word for help alone is answered here, and builds nothing.
+# Runs the program with its arguments. If it isn't built, or the checkout has moved to another commit since it was, make builds it first.
+# After a change of your own, run make.
 set -euo pipefail
 top=$(cd "$(dirname "$0")" && pwd)
 program=$top/out/bin/tape
 
-# The commands, as docs/COMMANDS.md has them in its table, and where they are described.
-if [ $# = 1 ] && [[ $1 = -h || $1 = --help || $1 = help ]]; then
-    printf '%s\n\n' 'usage: tape IMAGE COMMAND' \
-        'IMAGE is the file that holds the cartridge, and is created where there is none. The commands:'
-    awk -F ' *[|] *' '/^[|] Command [|] Does/, /^$/ { gsub(/ [(]\[[^)]*[)][)]/, ""); if (gsub(/`/, "")) {
-        sub(/, protect off/, " | off", $2); sub(/^.*, /, "", $2); sub(/DATE/, "[DATE]", $2); print $2 "\t" $3 } }' "$top/docs/COMMANDS.md" |
-        while IFS=$'\t' read -r words text; do
-            printf '    %-22s%s\n' "$words" "$(fold -s -w 86 <<< "$text " | sed '2,$ s/^/                          /; s/ *$//')"
-        done
-    printf '\n%s\n' "The manual page: man $top/man/tape.1"
-    echo "All of it, with what is printed and the exit statuses: $top/docs/COMMANDS.md"
-    exit
+# The commit, read without a process: that of the branch, or the one that is checked out. A copy without git has none.
+commit=
+if [ -f "$top/.git/HEAD" ]; then
+    read -r commit < "$top/.git/HEAD"
+    branch=$top/.git/${commit#ref: }
+    [ ! -f "$branch" ] || read -r commit < "$branch"
 fi
 
-# What was there when it was built: each file of the crates, and the kit; where rt isn't on the path any kit will do.
-now=$(cd "$top" && find Makefile prove crates.txt crates -path 'crates/*/out' -prune -o -type f -printf '%p %s %T@\n' | cksum
-    rt=$(readlink -f "$(type -P rt)") && cat "$(dirname "$rt")/../KIT-ID" 2> /dev/null) || true
-if [[ ! -x $program || -z $now || $(cat "$top/out/seen" 2> /dev/null) != "$now"* ]]; then
+built=
+[ ! -f "$top/out/commit" ] || read -r built < "$top/out/commit"
+
+if [ ! -x "$program" ] || [ "$commit" != "$built" ]; then
+    if [ $# = 1 ] && [[ $1 = -h || $1 = --help || $1 = help ]]; then
+        printf '%s\n' 'usage: tape IMAGE COMMAND' "The commands: man $top/man/tape.1" "Any command builds the program first."
+        exit
+    fi
     command -v make > /dev/null || { echo "tape: there is no make on the path: $top/README.md names what it takes" >&2; exit 1; }
     [ -x "$program" ] || echo 'tape: make builds the program first, which takes long; it may be broken off and started again' >&2
     (cd "$top" && make tape) >&2 || { echo 'tape: the program could not be built' >&2; exit 1; }
-    echo "$now" > "$top/out/seen"
+    echo "$commit" > "$top/out/commit"
 fi
 exec "$program" "$@"

@@ -18,28 +18,22 @@ checkout. The page tries them in a small one of its own, whose path has a space,
   $ seq 80 | tee crates/tape/src/main.rt > crates/spare/src/main.rt
   $ seq 9000 > crates/rows/src/lib.rt
 
-`tools` has what is called where no program is built, and neither `make` nor `rt`.
+`tools` has what is called if no program is built, and neither `make` nor `rt`.
 
-  $ for tool in awk bash cat cksum dirname find fold readlink sed tr; do ln -s "$(command -v $tool)" ../tools/; done
+  $ for tool in bash cat cksum dirname sed tr; do ln -s "$(command -v $tool)" ../tools/; done
 
 Help
 ----
 
-Each of three words is answered by the commands, as the table of COMMANDS.md has them, and where they are described.
+Before the program is built, each of three words prints where help is. Once it is built, the program prints its own.
 
   $ PATH=$PWD/../tools ./tape --help > ../help
   $ PATH=$PWD/../tools ./tape -h | cmp - ../help
   $ PATH=$PWD/../tools ./tape help | cmp - ../help
-  $ head -n 1 ../help
+  $ sed "s|$PWD|WHERE|" ../help
   usage: tape IMAGE COMMAND
-  $ tail -n 2 ../help | sed "s|$PWD|WHERE|"
-  The manual page: man WHERE/man/tape.1
-  All of it, with what is printed and the exit statuses: WHERE/docs/COMMANDS.md
-
-The commands are those of the manual page, in its order, with their words.
-
-  $ sed -n '/^\.Sh SYNOPSIS/,/^\.Sh DESCRIPTION/ s/^\.Cm \([a-z]*\).*/\1/p' man/tape.1 > ../manual
-  $ sed -n 's/^    \([a-z][a-z]*\) .*/\1/p' ../help | diff - ../manual
+  The commands: man WHERE/man/tape.1
+  Any command builds the program first.
 
 Nothing was built or kept.
 
@@ -120,8 +114,7 @@ Where a proof fails no program is made, and a file tells why.
   1 of 4: first, [0-9]+ s (re)
   2 of 4: kept, [0-9]+ s, about 1 min to go (re)
   second is not proved: out/build/second.log tells why
-  make: *** [Makefile:*: second] Error 1 (glob)
-  make: *** [Makefile:*: tape] Error 2 (glob)
+  make: *** [Makefile:*: tape] Error 1 (glob)
   [2]
   $ cat out/build/second.log
   logic=not-proved
@@ -166,34 +159,33 @@ What has changed
 Where something changed just what stands on it is proved again, and a file that is only younger is no change.
 
   $ touch crates/first/src/lib.rt
-  $ ./tape
-  words: 
+  $ make tape
   $ calls
 
 A file of proofs, of which nothing is in what other crates read: its own crate.
 
   $ mkdir crates/first/proofs
   $ echo '-- a proof' > crates/first/proofs/One.antt
-  $ ./tape > ../said 2>&1
+  $ make tape > ../said 2>&1
   $ calls
   first over std
 
 The file is gone: its own crate, too.
 
   $ rm crates/first/proofs/One.antt
-  $ ./tape > ../said 2>&1
+  $ make tape > ../said 2>&1
   $ calls
   first over std
 
 A line of code, and a file of code that is gone.
 
   $ seq 51 | tee crates/second/src/more.rt > crates/second/src/lib.rt
-  $ ./tape > ../said 2>&1
+  $ make tape > ../said 2>&1
   $ calls
   second over first std check
   tape over first second kept std check
   $ rm crates/second/src/more.rt
-  $ ./tape > ../said 2>&1
+  $ make tape > ../said 2>&1
   $ calls
   second over first std check
   tape over first second kept std check
@@ -201,19 +193,18 @@ A line of code, and a file of code that is gone.
 A line of `crates.txt`.
 
   $ sed -i 's/^kept: first/kept: first check/' crates.txt
-  $ ./tape > ../said 2>&1
+  $ make tape > ../said 2>&1
   $ calls
   kept over first std check
 
 The kit.
 
   $ echo 'another kit' > ../kit/KIT-ID
-  $ ./tape
+  $ make tape
   1 of 4: first, * (glob)
   2 of 4: * (glob)
   3 of 4: * (glob)
   4 of 4: tape, * (glob)
-  words: 
   $ calls
   first over std
   kept over first std check
@@ -231,31 +222,34 @@ The program itself is gone, which is kept, too; or it is wanted for another proc
   $ calls
   tape over first second kept std check
 
-Nothing is run where a proof fails then, though a program was built before.
+`./tape` asks make again once the checkout has moved to another commit. It runs nothing if a proof fails then, though a program was built
+before.
 
+  $ mkdir -p .git/refs/heads
+  $ echo 'ref: refs/heads/main' > .git/HEAD
+  $ echo 1234 > .git/refs/heads/main
+  $ ./tape cart.img new 3
+  4 of 4: tape, [0-9]+ s (re)
+  words: cart.img new 3
+  $ ./tape cart.img new 3
+  words: cart.img new 3
+  $ calls
+  tape over first second kept std check
+  $ echo 5678 > .git/refs/heads/main
   $ echo 'exit 1' > ../kit/does/tape
   $ seq 52 > crates/second/src/lib.rt
   $ ./tape cart.img new 3
   3 of 4: second, * (glob)
   tape is not proved: out/build/tape.log tells why
   make: *** [Makefile:*: tape] Error 1 (glob)
-  make: *** [Makefile:*: tape] Error 2 (glob)
   tape: the program could not be built
   [1]
   $ rm ../kit/does/tape
   $ calls
   second over first std check
 
-Nor where nothing is said to be needed: an order of the crates that is empty, or an empty `crates.txt`.
+Nor if `crates.txt` is empty.
 
-  $ mkdir ../broken
-  $ printf '#!/bin/sh\ncat > /dev/null\n' > ../broken/sort
-  $ chmod +x ../broken/sort
-  $ PATH=$PWD/../broken:$PATH ./tape
-  crates.txt has no crate for: tape
-  make: *** [Makefile:*: tape] Error 1 (glob)
-  tape: the program could not be built
-  [1]
   $ mv crates.txt ../
   $ touch crates.txt
   $ ./tape
