@@ -8,11 +8,13 @@ status 0 where all is sound.
 
   $ tape cart.img check; echo status $?
   tape: no cartridge
+  tape: cart.img does not exist
   status 4
   $ tape cart.img new 3
   blank 3
   $ tape cart.img check; echo status $?
   tape: the cartridge is not formatted
+  tape: cart.img: no header can be read: if this cartridge was ever in use, do not format it; run check
   status 6
   $ tape cart.img format evening
   formatted 84 0
@@ -21,7 +23,7 @@ status 0 where all is sound.
   status 0
   $ tape cart.img check now; echo status $?
   usage: tape IMAGE COMMAND
-  tape: the command is check
+  tape: wrong number of arguments; use: tape IMAGE check
   status 2
   $ echo 'a page of text' | tape cart.img append page
   appended 1 15 3 3
@@ -43,6 +45,7 @@ Up to three lost sectors of a segment are found again by the others, and a `scru
   weak 3 3
   check 4 1 0
   tape: 1 segments can be mended, 0 not
+  tape: cart.img: damaged; see EXIT STATUS 21 in man tape
   status 21
 
 On a protected cartridge it says the same, and so it does over an image that may only be read.
@@ -53,6 +56,7 @@ On a protected cartridge it says the same, and so it does over an image that may
   weak 3 3
   check 4 1 0
   tape: 1 segments can be mended, 0 not
+  tape: cart.img: damaged; see EXIT STATUS 21 in man tape
   status 21
   $ tape cart.img protect off
   protected off
@@ -61,6 +65,7 @@ On a protected cartridge it says the same, and so it does over an image that may
   weak 3 3
   check 4 1 0
   tape: 1 segments can be mended, 0 not
+  tape: cart.img: damaged; see EXIT STATUS 21 in man tape
   status 21
   $ chmod u+w cart.img
   $ cp cart.img weak.img
@@ -76,6 +81,7 @@ On a protected cartridge it says the same, and so it does over an image that may
   lost 3 4
   check 4 0 1
   tape: 0 segments can be mended, 1 not
+  tape: cart.img: damaged; see EXIT STATUS 21 in man tape
   status 21
 
 It goes on behind a segment that doesn't read.
@@ -89,6 +95,7 @@ It goes on behind a segment that doesn't read.
   weak 4 1
   check 5 1 1
   tape: 1 segments can be mended, 1 not
+  tape: cart.img: damaged; see EXIT STATUS 21 in man tape
   status 21
 
 Wrong sectors
@@ -102,6 +109,7 @@ A sector that can be read and holds other bytes than were written is named, wher
   wrong 3 5
   check 4 1 0
   tape: 1 segments can be mended, 0 not
+  tape: cart.img: damaged; see EXIT STATUS 21 in man tape
   status 21
   $ each lose 3 9
   1 of 1 done
@@ -109,6 +117,7 @@ A sector that can be read and holds other bytes than were written is named, wher
   wrong 3 5
   check 4 1 0
   tape: 1 segments can be mended, 0 not
+  tape: cart.img: damaged; see EXIT STATUS 21 in man tape
   status 21
   $ each lose 3 10
   1 of 1 done
@@ -116,6 +125,7 @@ A sector that can be read and holds other bytes than were written is named, wher
   mismatch 3
   check 4 0 1
   tape: 0 segments can be mended, 1 not
+  tape: cart.img: damaged; see EXIT STATUS 21 in man tape
   status 21
 
 The index is that of the sector in its segment, and a defect is no sector to be read.
@@ -133,6 +143,7 @@ The index is that of the sector in its segment, and a defect is no sector to be 
   wrong 3 5
   check 4 1 0
   tape: 1 segments can be mended, 0 not
+  tape: cart.img: damaged; see EXIT STATUS 21 in man tape
   status 21
 
 The header copies
@@ -145,6 +156,7 @@ The header copies
   weak 0 3
   check 4 1 0
   tape: 1 segments can be mended, 0 not
+  tape: cart.img: damaged; see EXIT STATUS 21 in man tape
   status 21
   $ cp whole.img cart.img
   $ zeros=$(printf '\\x00%.0s' $(seq 1024))
@@ -153,6 +165,7 @@ The header copies
   mismatch 0
   check 4 0 1
   tape: 0 segments can be mended, 1 not
+  tape: cart.img: damaged; see EXIT STATUS 21 in man tape
   status 21
 
 Where each copy has a wrong sector, neither can be read. Both are named before that is answered; once one of them counts as
@@ -165,6 +178,7 @@ lost the cartridge is there again.
   wrong 0 0
   wrong 1 0
   tape: the cartridge is not formatted
+  tape: cart.img: no header can be read: if this cartridge was ever in use, do not format it; run check
   status 6
   $ each lose 0 0
   1 of 1 done
@@ -184,6 +198,7 @@ A lost sector of it is weak, as everywhere.
   weak 2 1
   check 4 1 0
   tape: 1 segments can be mended, 0 not
+  tape: cart.img: damaged; see EXIT STATUS 21 in man tape
   status 21
 
 With all its data sectors readable they are the table, right or wrong, and the first mount makes the parity fit them. `check`
@@ -195,6 +210,7 @@ tells before that. A sector of data that isn't the last one in use is named: no 
   wrong 2 9
   check 4 1 0
   tape: 1 segments can be mended, 0 not
+  tape: cart.img: damaged; see EXIT STATUS 21 in man tape
   status 21
   $ tape cart.img lose 2 9
   lost 2 9
@@ -211,6 +227,7 @@ the parity is wrong.
   unsettled 2
   check 4 1 0
   tape: 1 segments can be mended, 0 not
+  tape: cart.img: damaged; see EXIT STATUS 21 in man tape
   status 21
   $ tape cart.img lose 2 0
   lost 2 0
@@ -223,6 +240,33 @@ the parity is wrong.
   unsettled 2
   check 4 1 0
   tape: 1 segments can be mended, 0 not
+  tape: cart.img: damaged; see EXIT STATUS 21 in man tape
+  status 21
+
+With another sector of data lost none is named: what a stopped append left could look so.
+
+  $ cp whole.img cart.img
+  $ flip 2 9 100
+  $ each lose 2 5
+  1 of 1 done
+  $ check
+  unsettled 2
+  check 4 1 0
+  tape: 1 segments can be mended, 0 not
+  tape: cart.img: damaged; see EXIT STATUS 21 in man tape
+  status 21
+
+One of parity may be lost.
+
+  $ cp whole.img cart.img
+  $ flip 2 9 100
+  $ each lose 2 29
+  1 of 1 done
+  $ check
+  wrong 2 9
+  check 4 1 0
+  tape: 1 segments can be mended, 0 not
+  tape: cart.img: damaged; see EXIT STATUS 21 in man tape
   status 21
 
 Where the table is refused by a mount, the line of its segment comes before the refusal.
@@ -232,6 +276,7 @@ Where the table is refused by a mount, the line of its segment comes before the 
   $ check
   wrong 2 0
   tape: foreign slot 0
+  tape: cart.img: the volume table has an invalid entry; run check, and see EXIT STATUS 7 in man tape
   status 7
   $ cp whole.img cart.img
   $ each lose 2 0 1 2 3
@@ -239,6 +284,7 @@ Where the table is refused by a mount, the line of its segment comes before the 
   $ check
   lost 2 4
   tape: segment 2 lost 4 sectors
+  tape: cart.img: the volume table can't be read: keep the image, and see EXIT STATUS 11 in man tape
   status 11
   $ cp whole.img cart.img
   $ each lose 2 4 5
@@ -247,6 +293,7 @@ Where the table is refused by a mount, the line of its segment comes before the 
   $ check
   mismatch 2
   tape: the volume table does not agree
+  tape: cart.img: the volume table is corrupt: keep the image, and see EXIT STATUS 8 in man tape
   status 8
 
 A stopped append
@@ -263,14 +310,17 @@ four writes the table is to be settled; behind all of them it is sound.
   unsettled 2
   check 5 1 0
   tape: 1 segments can be mended, 0 not
+  tape: cart.img: damaged; see EXIT STATUS 21 in man tape
   status 21
   unsettled 2
   check 5 1 0
   tape: 1 segments can be mended, 0 not
+  tape: cart.img: damaged; see EXIT STATUS 21 in man tape
   status 21
   unsettled 2
   check 5 1 0
   tape: 1 segments can be mended, 0 not
+  tape: cart.img: damaged; see EXIT STATUS 21 in man tape
   status 21
   $ tape cart.img list
   1 3 3 15 1970-01-01T00:00:00 page
@@ -281,6 +331,93 @@ four writes the table is to be settled; behind all of them it is sound.
   status 0
   $ cmp cart.img both.img
 
+Behind two of the four writes a code block of its own agrees with all sectors but 16 and 26, both of data. So once sector 16 is
+lost, sector 26 looks wrong, and is right. It isn't named, and the list with the new volume comes back.
+
+  $ cp both.img cart.img
+  $ take whole.img 2 30 31
+  $ each lose 2 16
+  1 of 1 done
+  $ check
+  unsettled 2
+  check 5 1 0
+  tape: 1 segments can be mended, 0 not
+  tape: cart.img: damaged; see EXIT STATUS 21 in man tape
+  status 21
+  $ tape cart.img list
+  1 3 3 15 1970-01-01T00:00:00 page
+  2 4 4 5 1970-01-01T00:00:00 more
+  volumes 2
+  $ cmp cart.img both.img
+
+The ninth entry stands in sector 1. There it is sectors 4 and 5.
+
+  $ cp whole.img cart.img
+  $ for n in 2 3 4 5 6 7 8; do echo $n | tape cart.img append v$n; done | tail -n 1
+  appended 8 2 10 10
+  $ cp cart.img eight.img
+  $ echo 9 | tape cart.img append v9
+  appended 9 2 11 11
+  $ cp cart.img nine.img
+  $ take eight.img 2 30 31
+  $ each lose 2 4
+  1 of 1 done
+  $ check
+  unsettled 2
+  check 12 1 0
+  tape: 1 segments can be mended, 0 not
+  tape: cart.img: damaged; see EXIT STATUS 21 in man tape
+  status 21
+  $ tape cart.img list | tail -n 2
+  9 11 11 2 1970-01-01T00:00:00 v9
+  volumes 9
+  $ cmp cart.img nine.img
+
+What the manual page says to do at `unsettled 2`: the list of the image, and then that of a copy which loses the sector of the
+last entry. That is the list before, until two sectors of parity are new.
+
+  $ two_lists() { cp cart.img first.img; tape first.img list | tail -n 1; each lose 2 0; tape cart.img list | tail -n 1; }
+  $ for left in '29 30 31' '30 31' 31; do cp both.img cart.img; take whole.img 2 $left; two_lists; done
+  volumes 2
+  1 of 1 done
+  volumes 1
+  volumes 2
+  1 of 1 done
+  volumes 1
+  volumes 2
+  1 of 1 done
+  volumes 2
+
+With one sector more lost the copy may be refused. The first list is right.
+
+  $ cp both.img cart.img
+  $ take whole.img 2 30 31
+  $ each lose 2 16
+  1 of 1 done
+  $ two_lists
+  volumes 2
+  1 of 1 done
+  tape: the volume table does not agree
+  tape: cart.img: the volume table is corrupt: keep the image, and see EXIT STATUS 8 in man tape
+
+Where the last sector in use is wrong, the copy has its entry right.
+
+  $ cp both.img cart.img
+  $ put 2 0 136 X
+  $ tape cart.img check 2> why | head -n 1
+  unsettled 2
+  $ cp cart.img first.img
+  $ tape first.img list
+  1 3 3 15 1970-01-01T00:00:00 page
+  2 4 4 5 1970-01-01T00:00:00 Xore
+  volumes 2
+  $ each lose 2 0
+  1 of 1 done
+  $ tape cart.img list
+  1 3 3 15 1970-01-01T00:00:00 page
+  2 4 4 5 1970-01-01T00:00:00 more
+  volumes 2
+
 An output that fails
 --------------------
 
@@ -289,4 +426,5 @@ A line that can't be written ends it.
   $ cp weak.img cart.img
   $ tape cart.img check > /dev/full; echo status $?
   tape: output failed
+  tape: cart.img: the output can't be written
   status 17

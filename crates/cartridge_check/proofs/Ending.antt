@@ -8,7 +8,7 @@ use Rattle.segment_io.proofs.Going.{tells_always}
 use Rattle.cartridge_front.proofs.Copies.{IsLearnt, told_learnt}
 use Rattle.cartridge_front.specs.Finding.{HasFormat, FindsHeader, FindsVolumes, ShowsVolumes, Leaves, NamesCause, is_of_mounting}
 use Rattle.qic_base.specs.declared.store_fault.StoreFault.{StoreFault}
-use Rattle.cartridge_front.specs.declared.table_reader.Unread.{Unread}
+use Rattle.table_solve.specs.declared.unread.Unread.{Unread}
 use Rattle.cartridge_spec.specs.Mounting.{Mounted, Mounts}
 use Rattle.cartridge_spec.specs.Table.{Entry}
 use Rattle.cartridge_spec.specs.TableSegment.{TableIs}

@@ -1,15 +1,19 @@
 -- What is told of the volume table's segment, by what a search finds of it and by what a mount reads.
 use Rattle.std.proofs.Common.{◌≡◌, ℕ, ◌<◌, ◌∙◌, sym, ap, refl, inl, inr, Bool, true, false, cond, List, length, take, map, Option}
-use Rattle.std.proofs.Common.{[], Some, None, Result, Ok, Err, subst, slice_get}
-use Rattle.std.specs.Prelude.{◌&&◌, IfOk, IfSome, not, nat_lt}
+use Rattle.std.proofs.Common.{[], Some, None, Result, Ok, Err, subst, slice_get, arith}
+use Rattle.std.proofs.lemmas.Bool.{and_left, and_right, eq-eqb, le-ltb, ne_eqb}
+use Rattle.std.specs.Prelude.{◌==◌, ◌≤◌, ◌&&◌, IfOk, IfSome, not, nat_lt}
 use Rattle.command_laws.proofs.Checked.{opens_always}
-use Rattle.cartridge_front.proofs.Tried.{last_lost}
 use Rattle.cartridge_front.specs.Finding.{FindsTable}
-use Rattle.cartridge_front.specs.declared.table_reader.Unread.{Unread}
+use Rattle.cartridge_laws.proofs.Cells.{count_of_readable}
+use Rattle.table_solve.proofs.Segment.{collected_loses, collected_reads}
+use Rattle.table_solve.proofs.Tried.{last_lost}
+use Rattle.table_solve.specs.declared.unread.Unread.{Unread}
 use Rattle.cartridge_laws.proofs.MountOnce.{not_lost}
 use Rattle.cartridge_laws.proofs.Segments.{length-whole_cells}
 use Rattle.cartridge_laws.proofs.TableSayings.{table_says_is_function}
-use Rattle.cartridge_laws.specs.Segment.{hidden}
+use Rattle.cartridge_laws.specs.Says.{LosesData}
+use Rattle.cartridge_laws.specs.Segment.{hidden, unreadable_data}
 use Rattle.cartridge_laws.specs.TableCells.{last_used}
 use Rattle.cartridge_spec.specs.Says.{AsRead, ByCode, Data, LostSectors, TableSays}
 use Rattle.cartridge_spec.specs.Says as says
@@ -25,16 +29,16 @@ use Rattle.qic_base.specs.Tape.{Meaning, Done}
 use Rattle.qic_base.specs.TapeCalls.{IsToldRight, Tells}
 use Rattle.qic_base.specs.declared.tape.SectorView.TheVariants.{Holds}
 use Rattle.qic_base.specs.declared.tape.TapeFailed.{TapeFailed}
-use Rattle.segment_io.proofs.SolvedCells.{slice_get-take}
-use Rattle.segment_io.specs.Gathered.{Gathered}
-use Rattle.segment_io.specs.declared.fault.SegFault.{SegFault}
+use Rattle.segment_solve.proofs.SolvedCells.{slice_get-take}
+use Rattle.segment_solve.specs.Gathered.{Gathered}
+use Rattle.segment_solve.specs.declared.fault.SegFault.{SegFault}
 use Rattle.segment_mending.specs.Locating.{data_in}
 use Rattle.segment_mending.specs.Searching.{SearchFinds}
 use Rattle.segment_mending.specs.declared.locating.Unread.TheVariants.{Lost, Mismatch}
 use Rattle.segment_mending.specs.declared.searching.Searched.TheVariants.{Reads, Fails}
 use Rattle.cartridge_check.proofs.Telling.{told_by, verdict_of_read}
 use Rattle.cartridge_check.specs.Verdicts.{IsJudged, IsUndecided}
-use Rattle.segment_io.specs.declared.fault.SegFault.TheVariants as seg
+use Rattle.segment_solve.specs.declared.fault.SegFault.TheVariants as seg
 use Rattle.segment_mending.specs.declared.searching.Searched.TheVariants as searching
 
 -- ---- a mount reads it, or it doesn't
@@ -70,14 +74,40 @@ module _ {T : Type 0} (m : Meaning T) (tape : T) (sectors : List (List ℕ)) whe
 
 -- ---- the last sector in use
 
+-- none of data is among the sectors that were not gathered
+all_read : (c : Cartridge) (lost : ℕ) (sectors : List (List ℕ)) → Gathered (table_cells c) lost sectors → length sectors ≡ 32 →
+    ¬ (LosesData lost) → unreadable_data (table_cells c) ≡ 0
+all_read c lost sectors gathered room none =
+    let reads = collected_reads (table_cells c) lost sectors (length-whole_cells c 2) room gathered none in
+    count_of_readable 29 (table_cells c) (λ i h. ((reads.each i h).0, (reads.each i h).1))
+
+-- where one is, no sector is named
+pub not_named : (c : Cartridge) (lost : ℕ) (sectors : List (List ℕ)) (sector : ℕ) → Gathered (table_cells c) lost sectors →
+    LosesData lost → is_named c (whole_segment 2) sector ≡ false
+not_named c lost sectors sector gathered loses =
+    let some : 0 < unreadable_data (table_cells c) = collected_loses (table_cells c) lost sectors gathered loses in
+    and_left (unreadable_data (table_cells c) == 0 && nat_lt sector 29) (not (is_last_used (last_used (table_cells c)) sector))
+    (and_left (unreadable_data (table_cells c) == 0) (nat_lt sector 29)
+    (ne_eqb (unreadable_data (table_cells c)) 0 (λ none. omega arith)))
+
+-- nor is one of parity
+pub no_parity_named : (c : Cartridge) (sector : ℕ) → 29 ≤ sector → is_named c (whole_segment 2) sector ≡ false
+no_parity_named c sector parity =
+    and_left (unreadable_data (table_cells c) == 0 && nat_lt sector 29) (not (is_last_used (last_used (table_cells c)) sector))
+    (and_right (unreadable_data (table_cells c) == 0) (nat_lt sector 29) (le-ltb sector 29 parity))
+
 pub named_by : (c : Cartridge) (lost : ℕ) (used : Option ℕ) (area sectors : List (List ℕ)) (sector : ℕ) →
-    Gathered (table_cells c) lost sectors → length area ≡ 29 → area ≡ take 29 sectors → used ≡ last_used (hidden lost (map Holds area)) →
+    Gathered (table_cells c) lost sectors → length sectors ≡ 32 → ¬ (LosesData lost) → length area ≡ 29 → area ≡ take 29 sectors →
+    used ≡ last_used (hidden lost (map Holds area)) →
     is_named c (whole_segment 2) sector ≡ (nat_lt sector 29 && not (is_last_used used sector))
-named_by c lost used area sectors sector gathered size are last =
+named_by c lost used area sectors sector gathered room none size are last =
     let cells : last_used (table_cells c) ≡ last_used (hidden lost (map Holds area)) =
     last_lost (table_cells c) lost area (length-whole_cells c 2) size gathered.unreadable
     (λ i bytes within held. subst (λ (l : List (List ℕ)). slice_get l i ≡ Some bytes) (sym are) (first_of i bytes within held)) in
-    ap (λ (o : Option ℕ). nat_lt sector 29 && not (is_last_used o sector)) (cells ∙ sym last)
+    let read : (unreadable_data (table_cells c) == 0) ≡ true =
+    eq-eqb (unreadable_data (table_cells c)) 0 (all_read c lost sectors gathered room none) in
+    ap (λ (b : Bool). b && nat_lt sector 29 && not (is_last_used (last_used (table_cells c)) sector)) read
+    ∙ ap (λ (o : Option ℕ). nat_lt sector 29 && not (is_last_used o sector)) (cells ∙ sym last)
   where
     first_of : (i : ℕ) (bytes : List ℕ) → i < 29 → slice_get (table_cells c) i ≡ Some (Holds bytes) →
         slice_get (take 29 sectors) i ≡ Some bytes

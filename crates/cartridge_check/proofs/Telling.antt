@@ -1,7 +1,8 @@
 -- What is told of a segment, by what a search finds of it.
 use Rattle.std.proofs.Common.{◌≡◌, ◌≢◌, ℕ, ◌∙◌, sym, ap, refl, Bool, true, false, cond, List, Some, None}
-use Rattle.std.specs.Prelude.{◌||◌, ◌&&◌, not, nat_lt}
+use Rattle.std.specs.Prelude.{◌==◌, ◌||◌, ◌&&◌, not, nat_lt}
 use Rattle.std.proofs.lemmas.Bool.{ne_eqb}
+use Rattle.cartridge_laws.specs.Segment.{unreadable_data}
 use Rattle.cartridge_spec.specs.Says.{LostSectors, last_used_below, unreadable_count}
 use Rattle.cartridge_spec.specs.TableSegment.{table_cells}
 use Rattle.command_spec.specs.Check.{IsTold, TableOpens, is_last_used, is_named, read_but, undecided, verdict_by}
@@ -40,8 +41,8 @@ verdict_of_no_header c l opens sectors can =
 
 named_elsewhere : (c : Cartridge) (l : Looked) (sector : ℕ) → l.segment ≢ 2 → is_named c l sector ≡ true
 named_elsewhere c l sector other =
-    ap (λ (b : Bool). not b || (nat_lt sector 29 && not (is_last_used (last_used_below (table_cells c) 29) sector)))
-    (ne_eqb l.segment 2 other)
+    ap (λ (b : Bool). not b || (unreadable_data (table_cells c) == 0 && nat_lt sector 29
+    && not (is_last_used (last_used_below (table_cells c) 29) sector))) (ne_eqb l.segment 2 other)
 
 verdict_of_wrong : (c : Cartridge) (l : Looked) (opens : Bool) (sectors : List (List ℕ)) (sector : ℕ) → l.segment ≢ 2 →
     Wrong sector ≡ verdict_by c l opens (data_in l sectors) (Some sector)

@@ -1,8 +1,9 @@
 //! One segment read, and what is told of it.
 
-ghost use Rattle.std.specs.Prelude.{◌≡◌, ◌≢◌, ◌<◌, [], true, length, IfOk};
+ghost use Rattle.std.specs.Prelude.{◌≡◌, ◌≢◌, ◌<◌, [], false, true, length, IfOk};
 ghost use Rattle.qic_base.specs.Cartridge.{Cartridge};
 ghost use Rattle.qic_base.specs.TapeCalls.{Does, Tells};
+ghost use Rattle.cartridge_laws.specs.Says.{LosesData};
 ghost use Rattle.cartridge_spec.specs.Says.{whole_mask};
 ghost use Rattle.command_spec.specs.Check.{IsTold, MayBeTold, is_last_used, is_named, read_but};
 ghost use Rattle.command_spec.specs.Scrub.{whole_segment};
@@ -18,10 +19,10 @@ use command_spec::Verdict;
 use drive_states::Unit;
 use gf256_qic::DATA_SECTORS;
 use host_driver::Host;
-use qic_base::{Tape, TapeFailed, WHOLE};
+use qic_base::{LostSet, Tape, TapeFailed, WHOLE};
 use segment_io::{SegFault, Workspace, collect};
 use segment_mending::{Searched, Unread, search_segment};
-use volume_table::{TABLE_SEGMENT, last_used};
+use volume_table::{TABLE_SEGMENT, Table, TableReading, last_used};
 
 /// What is told of a segment that reads but for so many sectors, at most three.
 fn read_but(lost: u8) -> Verdict
@@ -87,8 +88,20 @@ fn is_last_used(used: Option<u8>, sector: u8) -> bool
     }
 }
 
-/// Whether the wrong sector of the volume table's segment with this index, 0 to 31, is named: it is one of data, and not
-/// the last one with a used slot.
+/// Whether all 29 data sectors of the volume table's segment can be read, of which these sectors can't.
+fn reads_data(lost: LostSet) -> bool
+    ensures all { result ≡ true → ¬ (LosesData lost) }
+    ensures lost { result ≡ false → LosesData lost }
+{
+    match Table::reading(lost) {
+        TableReading::AsRead => true,
+        TableReading::Solve => false,
+        TableReading::TooMany { lost: _ } => false,
+    }
+}
+
+/// Whether the wrong sector of the volume table's segment with this index, 0 to 31, is named: each sector of data can be
+/// read, and it is one of them, and not the last one with a used slot.
 fn names_sector<T: Tape>(
     host: &mut Host,
     unit: &mut Unit<T>,
@@ -105,6 +118,9 @@ fn names_sector<T: Tape>(
     ensures keeps { Keeps T.means host.new unit.old unit.new }
 {
     let lost = collect(host, unit, TABLE_SEGMENT, WHOLE, work)?;
+    if !reads_data(lost) {
+        return Ok(false);
+    }
     let used = last_used(data_sectors(work), lost);
     Ok(usize::from(sector) < DATA_SECTORS && !is_last_used(used, sector))
 }

@@ -1,12 +1,13 @@
 -- What it means that a check finds a cartridge sound, that a scrub then writes nothing, and what `scrub deep` makes of one of which a
 -- check tells nothing but what that mends, as facts.
-use Rattle.std.specs.Prelude.{◌≡◌, ◌≢◌, ◌≤◌, ◌<◌, ◌⊎◌, ◌↔◌, ℕ, [], List, All, Some, false, true, length}
+use Rattle.std.specs.Prelude.{◌≡◌, ◌≢◌, ◌≤◌, ◌<◌, ◌⊎◌, ◌↔◌, ℕ, [], List, All, Some, None, false, true, length}
+use Rattle.cartridge_laws.specs.Segment.{unreadable_data}
 use Rattle.cartridge_laws.specs.TableCells.{last_used}
 use Rattle.cartridge_laws.specs.WrongTableSector.{IsWrongInTable}
 use Rattle.cartridge_spec.specs.Header.{Header}
 use Rattle.cartridge_spec.specs.HeaderCopies.{CopyReads}
 use Rattle.cartridge_spec.specs.Mounting.{Mounted, Mounts}
-use Rattle.cartridge_spec.specs.Says.{Data, Says, unreadable_count}
+use Rattle.cartridge_spec.specs.Says.{Data, Saying, Says, unreadable_count}
 use Rattle.cartridge_spec.specs.Settling.{changed_by, settling_steps}
 use Rattle.cartridge_spec.specs.Table.{Entry}
 use Rattle.cartridge_spec.specs.TableSegment.{table_cells}
@@ -14,7 +15,7 @@ use Rattle.cartridge_spec.specs.Volumes.{Plain, Stands}
 use Rattle.command_laws.specs.CommandFields.{Yields}
 use Rattle.command_laws.specs.ScrubLaws.{AreAllLive}
 use Rattle.command_laws.specs.SilentSegments.{IsMendable}
-use Rattle.command_spec.specs.Check.{IsSound, IsTold}
+use Rattle.command_spec.specs.Check.{IsSound, IsTold, verdict_by}
 use Rattle.command_spec.specs.Outcome.{CommandOutcome, output_of}
 use Rattle.command_spec.specs.Scrub.{counts_line, IsWrong, Looked, cells_at, looked_at, reads, whole_segment}
 use Rattle.command_spec.specs.declared.verdict.Verdict.{Verdict}
@@ -95,18 +96,33 @@ SoundScrubPrints =
 
 -- ---- a wrong sector of the table
 
--- A sector of data of the table's segment holds other bytes than the block of all others, and isn't the last one in use: it is named.
+-- A sector of data of the table's segment holds other bytes than the block of all others, and isn't the last one in use. Where each
+-- sector of data can be read, and at most one of parity can't, it is named.
 abbrev pub WrongInTableIsNamed : Type 0
 WrongInTableIsNamed =
     (c : Cartridge) (wrong : ℕ) (area : List (List ℕ)) → IsCartridge c → IsWrongInTable c wrong area → wrong < 29 →
-    last_used (table_cells c) ≢ Some wrong → unreadable_count (table_cells c) ≤ 1 → IsTold c (whole_segment 2) (Wrong wrong)
+    last_used (table_cells c) ≢ Some wrong → unreadable_data (table_cells c) ≡ 0 → unreadable_count (table_cells c) ≤ 1 →
+    IsTold c (whole_segment 2) (Wrong wrong)
 
 -- So whatever is told of that segment is that it is wrong.
 abbrev pub WrongInTableIsTold : Type 0
 WrongInTableIsTold =
     (c : Cartridge) (wrong : ℕ) (area : List (List ℕ)) (verdict : Verdict) → IsWrongInTable c wrong area → wrong < 29 →
-    last_used (table_cells c) ≢ Some wrong → unreadable_count (table_cells c) ≤ 1 → IsTold c (whole_segment 2) verdict →
-    verdict ≡ Wrong wrong
+    last_used (table_cells c) ≢ Some wrong → unreadable_data (table_cells c) ≡ 0 → unreadable_count (table_cells c) ≤ 1 →
+    IsTold c (whole_segment 2) verdict → verdict ≡ Wrong wrong
+
+-- no other sector of that segment is named
+abbrev pub NamedInTableIsWrong : Type 0
+NamedInTableIsWrong =
+    (c : Cartridge) (wrong : ℕ) → IsTold c (whole_segment 2) (Wrong wrong) →
+    ((area : List (List ℕ)) × IsWrongInTable c wrong area) × (wrong < 29) × (last_used (table_cells c) ≢ Some wrong)
+    × (unreadable_data (table_cells c) ≡ 0) × (unreadable_count (table_cells c) ≤ 1)
+
+-- Where a sector of data is unreadable it is told what the segment says, as if no wrong sector were looked for.
+abbrev pub LostInTableIsUnsearched : Type 0
+LostInTableIsUnsearched =
+    (c : Cartridge) (saying : Saying) (verdict : Verdict) → 0 < unreadable_data (table_cells c) → Says (table_cells c) saying →
+    (told : IsTold c (whole_segment 2) verdict) → verdict ≡ verdict_by c (whole_segment 2) told.opens saying None
 
 -- ---- what a deep scrub mends
 

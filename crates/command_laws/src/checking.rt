@@ -6,6 +6,7 @@ ghost use Rattle.command_laws.specs.CheckLaws.{SoundIsReadWhole, ReadWholeIsSoun
 ghost use Rattle.command_laws.specs.CheckLaws.{SoundIsSettled, SoundIsLeftByScrub, SoundIsLeftByDeepScrub, SoundScrubPrints};
 ghost use Rattle.command_laws.specs.CheckLaws.{ToldIsMendable, StandingHasOneHeader, DeepScrubMakesSound, MendedCheckIsDone};
 ghost use Rattle.command_laws.specs.CheckLaws.{WrongInTableIsNamed, WrongInTableIsTold};
+ghost use Rattle.command_laws.specs.CheckLaws.{NamedInTableIsWrong, LostInTableIsUnsearched};
 
 /// A segment is told to be sound exactly where each of its usable sectors can be read and it reads with the data of the code
 /// block that they are of (QIC-80-MC). The command `check` is done exactly where the cartridge mounts and each segment that it
@@ -38,9 +39,11 @@ pub fn a_mended_check()
 {}
 
 /// A sector of the volume table's data that can be read and holds other bytes than the block of all others is named by its
-/// index, 0 to 28, where at most one sector of the segment can't be read and it isn't the last one in use, which a stopped
-/// append may leave so.
+/// index, 0 to 28, where each sector of data can be read, at most one of parity can't, and it isn't the last one in use, which
+/// a stopped append may leave so. No other one is: where a sector of data is lost, what a stopped append left may look like one.
 pub fn a_wrong_sector_of_the_table_is_named()
     ensures named { WrongInTableIsNamed }
     ensures told { WrongInTableIsTold }
+    ensures wrong { NamedInTableIsWrong }
+    ensures unsearched { LostInTableIsUnsearched }
 {}

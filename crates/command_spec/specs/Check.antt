@@ -1,7 +1,7 @@
 -- The plain machine of `check`, which looks at every segment that a scrub looks at and writes nothing: what it tells of each, its counts
 -- and its answers (this project's own).
 use Rattle.std.specs.Prelude.{ℕ, List, [], ◌∷◌, ◌++◌, Bool, true, false, not, ◌&&◌, ◌||◌, ◌==◌, nat_lt, if◌then◌else◌, codes, decimal}
-use Rattle.std.specs.Prelude.{length}
+use Rattle.std.specs.Prelude.{length, take}
 use Rattle.std.specs.Prelude.{count_by, Option, Some, None, ◌≡◌, ◌<◌, ◌≤◌, ◌⊎◌, IsSomeAnd, All}
 use Rattle.std.specs.List.{AllZip}
 use Rattle.cartridge_spec.specs.Header.{Header}
@@ -28,11 +28,13 @@ abbrev pub is_last_used : Option ℕ → ℕ → Bool
 is_last_used None sector = false
 is_last_used (Some used) sector = used == sector
 
--- A wrong sector is named. One of the table's segment is where it is of data and not the last readable one in use: a stopped append
--- leaves no such one.
+-- A wrong sector is named. One of the table's segment is where each sector of data can be read, and it is one of them and not the
+-- last one in use: a stopped append leaves no such one. With a sector of data lost, what it leaves may look like such a one.
 abbrev pub is_named : Cartridge → Looked → (sector : ℕ) → Bool
 is_named c looked sector =
-    not (looked.segment == 2) || (nat_lt sector 29 && not (is_last_used (last_used_below (table_cells c) 29) sector))
+    not (looked.segment == 2)
+    || (unreadable_count (take 29 (table_cells c)) == 0 && nat_lt sector 29
+    && not (is_last_used (last_used_below (table_cells c) 29) sector))
 
 -- a mount reads the volume table, or it doesn't
 abbrev pub TableOpens : Cartridge → Bool → Type 0

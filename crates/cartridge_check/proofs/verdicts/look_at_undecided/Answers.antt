@@ -1,8 +1,8 @@
 use Rattle.std.proofs.Common.{Result, subst}
 use Rattle.qic_base.specs.TapeCalls.{Tells}
 use Rattle.cartridge_front.specs.Finding.{FindsTable}
-use Rattle.cartridge_front.specs.declared.table_reader.Unread.{Unread}
-use Rattle.segment_io.specs.declared.fault.SegFault.{SegFault}
+use Rattle.table_solve.specs.declared.unread.Unread.{Unread}
+use Rattle.segment_solve.specs.declared.fault.SegFault.{SegFault}
 use Rattle.cartridge_check.proofs.Table.{undecided_by, undecided_open}
 use Rattle.cartridge_check.proofs.verdicts.look_at_undecided.Goals as goal
 
