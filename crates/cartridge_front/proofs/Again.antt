@@ -21,7 +21,7 @@ use Rattle.qic_base.specs.Tape.{Meaning, Broke, Done}
 use Rattle.qic_base.specs.TapeCalls.{Tells}
 use Rattle.qic_base.specs.declared.tape.SectorView.{SectorView}
 use Rattle.segment_io.proofs.Going.{tells_always}
-use Rattle.segment_io.specs.declared.fault.SegFault.{SegFault}
+use Rattle.segment_solve.specs.declared.fault.SegFault.{SegFault}
 use Rattle.cartridge_front.proofs.Copies.{IsLearnt, told_learnt}
 use Rattle.cartridge_front.proofs.Settled.{mending_settles}
 use Rattle.cartridge_front.specs.Again.{FindsList, IsBrokenOff, IsOfReading, IsRefused, SettlesAgain, AddsEntry, entry_writes, HasTable}
@@ -29,9 +29,9 @@ use Rattle.cartridge_front.specs.Again.{IsSettledAgain, BrokeUnread, FaultUnread
 use Rattle.cartridge_front.specs.Finding.{FindsTable, refusal_of, Leaves}
 use Rattle.cartridge_front.specs.Settling.{mending_steps}
 use Rattle.qic_base.specs.declared.store_fault.StoreFault.{StoreFault}
-use Rattle.cartridge_front.specs.declared.table_reader.Unread.{Unread}
+use Rattle.table_solve.specs.declared.unread.Unread.{Unread}
 use Rattle.cartridge_laws.proofs.MountOnce.{one_table}
-use Rattle.segment_io.specs.declared.fault.SegFault.TheVariants as seg
+use Rattle.segment_solve.specs.declared.fault.SegFault.TheVariants as seg
 use Rattle.qic_base.specs.declared.store_fault.StoreFault.TheVariants as fault
 
 -- .. so data that show another tell that it doesn't

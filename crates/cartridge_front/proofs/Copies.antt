@@ -22,11 +22,11 @@ use Rattle.header_segments.specs.declared.header.Header.{Header}
 use Rattle.header_segments.specs.Header.{header_of}
 use Rattle.cartridge_laws.specs.HeaderLaws.{AreTaken}
 use Rattle.cartridge_laws.proofs.HeaderRefusals.{fault-segments, length-words_in}
-use Rattle.segment_io.specs.Reading.{HasSolved}
+use Rattle.segment_solve.specs.Reading.{HasSolved}
 use Rattle.qic_base.specs.declared.store_fault.StoreFault.{StoreFault}
 use Rattle.cartridge_front.specs.Finding.{Leaves, Refuses, is_tape, TakesHeader, FindsCopy, FindsHeader, HasCopy, HasFormat, HasWords}
 use Rattle.cartridge_front.specs.Finding.{HasMap}
-use Rattle.cartridge_front.proofs.TableSegment.{data_of-whole}
+use Rattle.table_solve.proofs.Segment.{data_of-whole}
 use Rattle.qic_base.specs.declared.store_fault.StoreFault.TheVariants as fault
 
 -- ---- calls that only read

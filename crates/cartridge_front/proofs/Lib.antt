@@ -1,6 +1,5 @@
 pub mod Adding
 pub mod Again
-pub mod Collected
 pub mod Copies
 pub mod Mending
 pub mod Mounts
@@ -8,5 +7,3 @@ pub mod Settled
 pub mod Slots
 pub mod Stale
 pub mod TableSegment
-pub mod Trials
-pub mod Tried

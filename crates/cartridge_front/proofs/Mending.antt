@@ -12,25 +12,13 @@ use Rattle.cartridge_spec.specs.Says.{whole_mask}
 use Rattle.cartridge_laws.specs.Segment.{sectors_of, places_where}
 use Rattle.cartridge_laws.proofs.Segments.{places_of_whole}
 use Rattle.cartridge_spec.specs.Settling.{block_writes}
-use Rattle.cartridge_front.specs.declared.table_reader.Unread.{Unread}
+use Rattle.table_solve.specs.declared.unread.Unread.{Unread}
 use Rattle.cartridge_front.specs.Settling.{collected_block, is_stale, mending_steps}
 use Rattle.qic_base.specs.Step.{Step, write_sector}
-use Rattle.command_laws.proofs.ScrubNamed.{filter_more}
+use Rattle.table_solve.proofs.Places.{places_of_set}
 use Rattle.qic_base.specs.CartridgeTerms.{is_lost}
 
 -- ---- the places of a set
-
-places_filter : (mask n : ℕ) (test : ℕ → Bool) → ((i : ℕ) → i < n → is_lost mask i ≡ test i) →
-    lost_places mask n ≡ filter test (range_with_len 0 n)
-unfolding lost_places
-places_filter mask zero test same = refl
-places_filter mask (suc n) test same =
-    ap (λ (l : List ℕ). l ++ (if is_lost mask n then n ∷ [] else [])) (places_filter mask n test (λ i within. same i (omega arith)))
-    ∙ ap (λ (b : Bool). filter test (range_with_len 0 n) ++ (if b then n ∷ [] else [])) (same n (omega arith))
-    ∙ sym (filter_more test n)
-
-pub places_of_set : (mask : ℕ) (test : ℕ → Bool) → ((i : ℕ) → i < 32 → is_lost mask i ≡ test i) → lost_places mask 32 ≡ places_where test
-places_of_set mask test same = places_filter mask 32 test same
 
 -- tests that agree have the same places
 filter_same : (a n : ℕ) (one other : ℕ → Bool) → ((i : ℕ) → i < a + n → one i ≡ other i) → filter one (range_with_len a n) ≡ filter other

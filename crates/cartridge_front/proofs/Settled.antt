@@ -21,12 +21,12 @@ use Rattle.qic_base.specs.CartridgeTerms.{IsLost, is_lost}
 use Rattle.qic_base.specs.Step.{write_sector, changed}
 use Rattle.qic_base.specs.declared.tape.SectorView.{SectorView}
 use Rattle.qic_base.specs.declared.tape.SectorView.TheVariants.{Blank, Defect, Lost, Holds}
-use Rattle.segment_io.specs.Gathered.{NamesUnreadable}
+use Rattle.segment_solve.specs.Gathered.{NamesUnreadable}
 use Rattle.cartridge_front.proofs.Mending.{places_same}
 use Rattle.cartridge_front.proofs.Stale.{within_data, bytes_same}
-use Rattle.cartridge_front.specs.Reading.{IsReadBut, HoldsOther}
+use Rattle.table_solve.specs.Reading.{IsReadBut, HoldsOther}
 use Rattle.cartridge_front.specs.Settling.{is_stale, collected_block, mending_steps}
-use Rattle.cartridge_front.specs.declared.table_reader.Unread.{Unread}
+use Rattle.table_solve.specs.declared.unread.Unread.{Unread}
 
 -- ---- the writes in the workspace are those of the cartridge
 

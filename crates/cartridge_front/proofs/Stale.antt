@@ -156,11 +156,3 @@ put_stale_in lost one two three old parity room first second third =
     at_place k =
         ap (λ (s : List ℕ). bytes_eq s (get_or parity k [])) (sym (unwrap_or-slice_get old (29 + k) []))
         ∙ ap (λ (s : List ℕ). bytes_eq (sector_at old (29 + k)) s) (sym (behind_data old parity k room))
-
--- the parity is put behind the data
-pub put_end : (old parity : List (List ℕ)) → length old ≡ 32 → put_mid 29 (length old - 29) old parity ≡ take 29 old ++ parity
-put_end old parity room =
-    let none : post_of 29 (length old - 29) old ≡ [] = nil_from_length (post_of 29 (length old - 29) old)
-    (simp length-drop (omega arith)) in
-    ap (λ (l : List (List ℕ)). take 29 old ++ (parity ++ l)) none
-    ∙ ap (λ (l : List (List ℕ)). take 29 old ++ l) (append-nil parity)

@@ -1,4 +1,4 @@
--- The table's segment as it was collected, and what it says.
+-- What is found in the collected sectors of the table's segment.
 use Rattle.std.proofs.Common.{◌≡◌, ℕ, ◌-◌, ◌/◌, ◌%◌, ◌^◌, ◌<◌, ◌≤◌, zero, suc, Bool, cond, List, [], ◌∷◌, length, take, Option, Some}
 use Rattle.std.proofs.Common.{IsSomeAnd, Result, Ok, Err, IfOk, refl, sym, ap, ◌∙◌, subst, inl, inr, arith, get_or, length-take}
 use Rattle.std.specs.List.{slice_get}
@@ -20,75 +20,17 @@ use Rattle.cartridge_spec.specs.TableSegment.{table_cells, TableIs}
 use Rattle.cartridge_laws.proofs.Cells.{unreadable_count-first}
 use Rattle.cartridge_laws.specs.Shape.{Carries}
 use Rattle.cartridge_laws.proofs.Segments.{length-whole_cells, count_of_whole}
-use Rattle.segment_io.specs.Gathered.{Gathered, IsUnreadableAt, NamesUnreadable}
-use Rattle.segment_io.specs.declared.fault.SegFault.{SegFault}
-use Rattle.segment_io.proofs.SolvedCells.{says_lost}
-use Rattle.cartridge_front.specs.declared.table_reader.Unread.{Unread}
+use Rattle.segment_solve.specs.Gathered.{Gathered, IsUnreadableAt, NamesUnreadable}
+use Rattle.segment_solve.specs.declared.fault.SegFault.{SegFault}
+use Rattle.segment_solve.proofs.SolvedCells.{says_lost}
+use Rattle.table_solve.specs.declared.unread.Unread.{Unread}
 use Rattle.cartridge_spec.specs.Table.{Entry}
 use Rattle.qic_base.specs.declared.store_fault.StoreFault.{StoreFault}
 use Rattle.cartridge_front.specs.Finding.{FindsTable, FindsVolumes, DecodesTable}
-use Rattle.cartridge_front.specs.Reading.{IsReadBut, SolvesTable}
-use Rattle.segment_io.specs.declared.fault.SegFault.TheVariants as seg
+use Rattle.table_solve.specs.Reading.{IsReadBut, SolvesTable}
+use Rattle.segment_solve.specs.declared.fault.SegFault.TheVariants as seg
 use Rattle.qic_base.specs.declared.store_fault.StoreFault.TheVariants as store
-
--- a cell that isn't unreadable holds bytes
-readable_holds : (view : SectorView) → ¬ (IsUnreadable view) → (bytes : List ℕ) × (view ≡ Holds bytes)
-readable_holds Blank none = absurd (none refl)
-readable_holds Defect none = absurd (none refl)
-readable_holds Lost none = absurd (none refl)
-readable_holds (Holds bytes) none = (bytes, refl)
-
-found-take : (sectors : List (List ℕ)) (n i : ℕ) (bytes : List ℕ) → i < n → slice_get sectors i ≡ Some bytes →
-    slice_get (take n sectors) i ≡ Some bytes
-found-take sectors n i bytes within there =
-    let inside : i < length sectors = slice_get_within sectors i bytes there in
-    slice_get-get_or (take n sectors) i [] (omega (arith, length-take n sectors))
-    ∙ ap Some (get_or-take n sectors i [] within)
-    ∙ sym (slice_get-get_or sectors i [] inside)
-    ∙ there
-
--- where no data sector was lost, all can be read, and stand in their places
-pub collected_reads : (cells : List SectorView) (lost : ℕ) (sectors : List (List ℕ)) → length cells ≡ 32 → length sectors ≡ 32 →
-    Gathered cells lost sectors → ¬ (LosesData lost) → ReadsAll cells (take 29 sectors)
-collected_reads cells lost sectors count room gathered none = record {
-  size = omega (arith, length-take 29 sectors);
-  each = λ i within.
-      let view : SectorView = get_or cells i Blank in
-      let there : slice_get cells i ≡ Some view = slice_get-get_or cells i Blank (omega arith) in
-      let held = readable_holds view (λ bad.
-      none (record {
-        place = i;
-        data_sector = within;
-        is_lost = (gathered.unreadable i).1 (subst (λ (o : Option SectorView). IsSomeAnd o IsUnreadable) (sym there) bad);
-      })) in
-      let holds : slice_get cells i ≡ Some (Holds held.0) = there ∙ ap Some held.1 in
-      (held.0, holds, found-take sectors 29 i held.0 within (gathered.readable i held.0 holds));
-}
-
--- an unreadable cell among the first is counted
-counts : (cells : List SectorView) (n i : ℕ) → i < n → IsUnreadableAt cells i → 0 < unreadable_count (take n cells)
-counts [] n i within bad = absurd bad
-counts (cell ∷ cells) zero i within bad = absurd (omega arith)
-counts (cell ∷ cells) (suc n) zero within bad =
-    let one : cond {A = ℕ} (is_unreadable cell) 1 0 ≡ 1 = ap (λ (b : Bool). cond {A = ℕ} b 1 0) bad in
-    subst (λ (m : ℕ). 0 < m) (sym (unreadable_count-first cell (take n cells))) (omega arith)
-counts (cell ∷ cells) (suc n) (suc i) within bad =
-    let rest = counts cells n i (omega arith) bad in
-    subst (λ (m : ℕ). 0 < m) (sym (unreadable_count-first cell (take n cells))) (omega arith)
-
-pub collected_loses : (cells : List SectorView) (lost : ℕ) (sectors : List (List ℕ)) → Gathered cells lost sectors → LosesData lost →
-    0 < unreadable_data cells
-collected_loses cells lost sectors gathered loses =
-    counts cells 29 loses.place loses.data_sector ((gathered.unreadable loses.place).0 loses.is_lost)
-
--- the data of a whole segment's block are its first 29 sectors
-pub data_of-whole : (sectors : List (List ℕ)) (n : ℕ) → n ≡ 32 → length sectors ≡ 32 → data_of (take n sectors) ≡ take 29 sectors
-data_of-whole sectors n count room =
-    let all : take n sectors ≡ sectors = take_all n sectors (omega arith) in
-    let count_of : length sectors - 3 ≡ 29 = omega arith in
-    rw (all, count_of) refl
-
--- ---- what was found
+use Rattle.table_solve.proofs.Segment.{collected_reads, collected_loses}
 
 -- where all data sectors can be read, they are the table's data
 pub finds_read : (c : Cartridge) (lost : ℕ) (sectors : List (List ℕ)) → length sectors ≡ 32 → Gathered (table_cells c) lost sectors →
@@ -134,10 +76,6 @@ pub finds_many : (c : Cartridge) (lost n : ℕ) (sectors : List (List ℕ)) → 
 finds_many c lost n sectors gathered loses count many =
     let few : length (table_cells c) ≤ 32 = omega (arith, length-whole_cells c 2) in
     (collected_loses (table_cells c) lost sectors gathered loses, says_lost (table_cells c) lost n few gathered.unreadable count many)
-
--- a whole segment carries data
-pub carries_whole : Carries 4294967295
-carries_whole = subst (λ (n : ℕ). 4 ≤ n) (sym count_of_whole) (omega arith)
 
 -- a slot at fault in the data is one in the table's
 pub finds_bad : (c : Cartridge) (last n : ℕ) (sectors area : List (List ℕ)) (entries : List Entry) (fault : StoreFault)

@@ -13,10 +13,10 @@ use Rattle.cartridge_spec.specs.Table.{table_with, Entry, Shows}
 use Rattle.cartridge_spec.specs.Appending.{table_writes}
 use Rattle.cartridge_spec.specs.Settling.{settling_steps}
 use Rattle.command_spec.specs.Numbers.{AreTooMany}
-use Rattle.cartridge_front.specs.Reading.{IsReadBut}
+use Rattle.table_solve.specs.Reading.{IsReadBut}
 use Rattle.qic_base.specs.declared.store_fault.StoreFault.{StoreFault}
 use Rattle.qic_base.specs.declared.store_fault.StoreFault.TheVariants.{Lost, TableMismatch, Tape}
-use Rattle.cartridge_front.specs.declared.table_reader.Unread.{Unread}
+use Rattle.table_solve.specs.declared.unread.Unread.{Unread}
 
 -- ---- read again
 

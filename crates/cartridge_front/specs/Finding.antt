@@ -22,11 +22,11 @@ use Rattle.command_spec.specs.Numbers.{AreTooMany}
 use Rattle.header_segments.specs.Header.{header_of}
 use Rattle.header_segments.specs.Refusal.{FitsField}
 use Rattle.cartridge_laws.specs.HeaderLaws.{AreTaken}
-use Rattle.segment_io.specs.declared.fault.SegFault.{SegFault}
-use Rattle.segment_io.specs.declared.fault.SegFault.TheVariants as seg
+use Rattle.segment_solve.specs.declared.fault.SegFault.{SegFault}
+use Rattle.segment_solve.specs.declared.fault.SegFault.TheVariants as seg
 use Rattle.qic_base.specs.declared.store_fault.StoreFault.{StoreFault}
-use Rattle.cartridge_front.specs.declared.table_reader.Unread.{Unread}
-use Rattle.cartridge_front.specs.Reading.{IsReadBut}
+use Rattle.table_solve.specs.declared.unread.Unread.{Unread}
+use Rattle.table_solve.specs.Reading.{IsReadBut}
 use Rattle.qic_base.specs.declared.store_fault.StoreFault.TheVariants.{Foreign, NotFormatted, Lost, TableMismatch, Tape}
 
 -- ---- the tape

@@ -6,7 +6,7 @@ use Rattle.cartridge_spec.specs.Mounting.{Mounts}
 use Rattle.cartridge_spec.specs.Table.{Entry}
 use Rattle.header_segments.specs.Header.{header_of}
 use Rattle.qic_base.specs.Cartridge.{Cartridge}
-use Rattle.cartridge_front.specs.Reading.{IsReadBut}
+use Rattle.table_solve.specs.Reading.{IsReadBut}
 use Rattle.qic_base.specs.declared.store_fault.StoreFault.{StoreFault}
 use Rattle.qic_base.specs.declared.store_fault.StoreFault.TheVariants.{NotFormatted, Foreign, Lost, TableMismatch}
 use Rattle.cartridge_front.specs.declared.learning.Learnt.{Learnt}

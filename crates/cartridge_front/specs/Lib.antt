@@ -1,5 +1,4 @@
 pub mod Again
 pub mod Finding
 pub mod Learning
-pub mod Reading
 pub mod Settling

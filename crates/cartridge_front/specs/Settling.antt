@@ -6,7 +6,7 @@ use Rattle.cartridge_spec.specs.Shape.{sector_at}
 use Rattle.cartridge_spec.specs.Says.{with_parity}
 use Rattle.cartridge_laws.specs.Segment.{places_where}
 use Rattle.cartridge_spec.specs.Settling.{block_writes}
-use Rattle.cartridge_front.specs.declared.table_reader.Unread.{Unread}
+use Rattle.table_solve.specs.declared.unread.Unread.{Unread}
 use Rattle.qic_base.specs.CartridgeTerms.{is_lost}
 
 -- the block of the table's segment as it was collected, by the data in its first 29 sectors

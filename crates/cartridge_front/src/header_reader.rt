@@ -9,13 +9,13 @@ ghost use Rattle.host_driver.specs.Fits.{AgreesWithTape, segments_of};
 ghost use Rattle.qic_base.specs.Cartridge.{IsLength};
 ghost use Rattle.cartridge_front.specs.Finding.{Leaves, RefusesMounting, FindsCopy, FindsHeader, NamesCause, TakesHeader, HasMap};
 
-use crate::table_reader::data_sectors;
 use bad_sector_map::BadMap;
 use drive_states::Unit;
 use header_segments::{Header, HeaderFault, decode};
 use host_driver::Host;
 use qic_base::{Sector, StoreFault, Tape, WHOLE};
 use segment_io::{SegFault, Workspace, read_segment};
+use table_solve::data_sectors;
 
 /// The first copy of the header, segment 0; the second stands in segment 1.
 const FIRST_COPY: u32 = 0;

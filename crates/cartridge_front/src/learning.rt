@@ -10,7 +10,6 @@ ghost use Rattle.cartridge_front.specs.Finding.{Leaves, NamesCause, RefusesMount
 ghost use Rattle.cartridge_front.specs.Learning.{Learns};
 
 use crate::header_reader::read_header;
-use crate::table_reader::Unread;
 use crate::volume_reader::read_volumes;
 use bad_sector_map::BadMap;
 use drive_states::Unit;
@@ -19,6 +18,7 @@ use host_driver::{Host, WriteProtected};
 use qic_base::{StoreFault, Tape};
 use qic117_commands::Mode;
 use segment_io::Workspace;
+use table_solve::Unread;
 use volume_table::Table;
 
 /// The header in force, and the sectors of the volume table's segment that the tape may hold otherwise.

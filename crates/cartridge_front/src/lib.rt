@@ -14,5 +14,6 @@ pub use header_reader::read_header;
 pub use learning::{Learnt, enter_primary, learn};
 pub use refreshing::{add_entry, settle_again};
 pub use settling::settle;
-pub use table_reader::{Unread, data_sectors, read_table, solve_first};
+pub use table_reader::read_table;
+pub use table_solve::{Unread, data_sectors};
 pub use volume_reader::read_volumes;

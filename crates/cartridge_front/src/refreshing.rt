@@ -12,13 +12,14 @@ ghost use Rattle.cartridge_front.specs.Finding.{Leaves};
 ghost use Rattle.volume_table.specs.Entry.{entry_of};
 
 use crate::settling::settle;
-use crate::table_reader::{Unread, data_sectors, read_table};
+use crate::table_reader::read_table;
 use crate::table_writer::write_entry;
 use crate::volume_reader::table_fault;
 use drive_states::Unit;
 use host_driver::Host;
 use qic_base::{StoreFault, Tape};
 use segment_io::Workspace;
+use table_solve::{Unread, data_sectors};
 use volume_table::{Entry, Table};
 
 /// Reads the table's segment, whose data have to show the list. The answer is the sectors that the tape may hold

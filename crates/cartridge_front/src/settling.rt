@@ -10,7 +10,6 @@ ghost use Rattle.drive_spec.specs.Terms.{is_protected, is_referenced};
 ghost use Rattle.host_driver.specs.Calls.{IsReady, Keeps};
 ghost use Rattle.cartridge_front.specs.Settling.{collected_block, is_stale, mending_steps};
 
-use crate::table_reader::{Unread, data_sectors};
 use crate::table_writer::write_places;
 use drive_states::Unit;
 use gf256_qic::DATA_SECTORS;
@@ -18,6 +17,7 @@ use host_driver::Host;
 use qic_base::{LostSet, Sector, Tape, TapeFailed};
 use segment_io::Workspace;
 use segment_parity::parity_of;
+use table_solve::{Unread, data_sectors};
 
 /// The places of a whole segment's parity.
 const PARITY_PLACES: [u8; 3] = [29, 30, 31];

@@ -8,11 +8,12 @@ ghost use Rattle.host_driver.specs.Calls.{IsReady, Keeps};
 ghost use Rattle.host_driver.specs.Fits.{segments_of};
 ghost use Rattle.cartridge_front.specs.Finding.{Leaves, NamesCause, RefusesMounting, FindsVolumes, ShowsVolumes, DecodesTable, refusal_of};
 
-use crate::table_reader::{Unread, data_sectors, read_table};
+use crate::table_reader::read_table;
 use drive_states::Unit;
 use host_driver::Host;
 use qic_base::{ForeignField, Sector, StoreFault, TRACKS, Tape};
 use segment_io::{SegFault, Workspace};
+use table_solve::{Unread, data_sectors};
 use volume_table::{Table, TableFault};
 
 /// Why the table's segment has no data.

@@ -20,7 +20,7 @@ use dump_output::PutFault;
 use dump_spec::{Command, Status};
 use dump_tables::{TablePlace, find_table};
 use qic_base::{Disk, DiskFailed, Sector, Sink, SinkFailed};
-use segment_io::Workspace;
+use segment_solve::Workspace;
 
 /// A status or a fault, where it is known whether the table is not sure.
 fn with_warning(how: Result<Status, PutFault>, warned: bool) -> Result<Ending, Cut>

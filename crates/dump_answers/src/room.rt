@@ -5,7 +5,7 @@ ghost use Rattle.std.specs.Vec.{vec_len};
 
 use dump_lists::SEGMENTS;
 use qic_base::NoMemory;
-use segment_io::Workspace;
+use segment_solve::Workspace;
 use std::alloc::Global;
 
 /// The segments in a word.

@@ -11,8 +11,8 @@ use crate::place::{TablePlace, is_table, table_segment};
 use dump_opening::OpenDump;
 use dump_reader::{Cursor, read_piece};
 use qic_base::{Disk, DiskFailed, Sector};
-use segment_io::Workspace;
 use segment_salvage::data_sectors;
+use segment_solve::Workspace;
 use table_salvage::read_table;
 
 /// Reads a segment, and makes its sectors the data of a table.

@@ -1,5 +1,3 @@
 pub mod ChosenSectors
-pub mod GatheredCells
 pub mod Going
 pub mod NamedWrites
-pub mod SolvedCells

@@ -1,6 +1,2 @@
 pub mod Calls
-pub mod Faults
-pub mod Gathered
-pub mod Lending
-pub mod Reading
 pub mod Writes

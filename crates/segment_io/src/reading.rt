@@ -6,16 +6,13 @@ ghost use Rattle.cartridge_spec.specs.Shape.{usable_count};
 ghost use Rattle.cartridge_spec.specs.Says.{cells_of};
 ghost use Rattle.host_driver.specs.Calls.{Keeps};
 ghost use Rattle.segment_io.specs.Calls.{CanRead};
-ghost use Rattle.segment_io.specs.Gathered.{Gathered, NamesUnreadable};
-ghost use Rattle.segment_io.specs.Reading.{Solves, IsRead};
+ghost use Rattle.segment_solve.specs.Gathered.{Gathered, NamesUnreadable};
+ghost use Rattle.segment_solve.specs.Reading.{Solves, IsRead};
 
-use crate::fault::SegFault;
-use crate::places::gather;
-use crate::solving::solve_collected;
-use crate::workspace::Workspace;
 use drive_states::Unit;
 use host_driver::Host;
 use qic_base::{LostSet, Tape, TapeFailed};
+use segment_solve::{SegFault, Workspace, gather, solve_collected};
 
 /// Reads the usable sectors of a segment into the first places of the workspace, ascending: bit `i` of `usable` stands
 /// for sector `i`. The answer is the places of those that can't be read.
@@ -37,7 +34,7 @@ pub fn collect<T: Tape>(
     ensures keeps { Keeps T.means host.new unit.old unit.new }
 {
     host.go_to(unit, segment);
-    let Some(sectors) = work.sectors.as_mut_array() else {
+    let Some(sectors) = work.sectors_mut().as_mut_array() else {
         unreachable!("there are 32 sectors")
     };
     let read = host.read_sectors(unit, segment, LostSet::from_mask(usable), sectors)?;

@@ -10,12 +10,11 @@ ghost use Rattle.segment_io.specs.Writes.{first_sectors};
 ghost use Rattle.cartridge_laws.specs.Writes.{block_in, segment_writes, named_writes};
 
 use crate::places::spread;
-use crate::shape::count_usable;
-use crate::workspace::Workspace;
 use drive_states::Unit;
 use host_driver::Host;
 use qic_base::{LostSet, SECTORS, Sector, Tape, TapeFailed, WHOLE};
 use segment_parity::put_parity;
+use segment_solve::{Workspace, count_usable};
 
 /// Writes all usable sectors of a segment by one call: the data in the workspace, at the places before the last three, and
 /// their parity, which is put into those first. The workspace has both in their places, also where the tape failed.
@@ -33,7 +32,7 @@ pub fn write_segment<T: Tape>(
     ensures keeps { Keeps T.means host.new unit.old unit.new }
 {
     let data = count_usable(usable) - 3;
-    let Some(sectors) = work.sectors.as_mut_array() else {
+    let Some(sectors) = work.sectors_mut().as_mut_array() else {
         unreachable!("there are 32 sectors")
     };
     put_parity(sectors, usize::from(data));

@@ -24,7 +24,7 @@ use Rattle.qic_base.specs.Step.{worn_view}
 use Rattle.qic_base.specs.Tape.{Meaning}
 use Rattle.qic_base.specs.declared.tape.SectorView.{SectorView}
 use Rattle.qic_base.specs.declared.tape.SectorView.TheVariants.{Holds}
-use Rattle.segment_io.specs.Gathered.{IsUnreadableAt, NamesUnreadable}
+use Rattle.segment_solve.specs.Gathered.{IsUnreadableAt, NamesUnreadable}
 use Rattle.segment_mending.specs.Locating.{IsFoundBy, MayBeIn, Finds}
 use Rattle.segment_mending.specs.declared.locating.Found.{Found}
 use Rattle.segment_mending.specs.declared.locating.Found.TheVariants.{Reads, Fails}

@@ -11,7 +11,7 @@ use Rattle.cartridge_spec.specs.Shape.{usable_count}
 use Rattle.erasure_solve.proofs.Places.{is_lost_from}
 use Rattle.qic_base.specs.declared.tape.SectorView.{SectorView}
 use Rattle.qic_base.specs.declared.tape.SectorView.TheVariants.{Blank, Defect, Lost, Holds}
-use Rattle.segment_io.specs.Gathered.{Gathered}
+use Rattle.segment_solve.specs.Gathered.{Gathered}
 use Rattle.segment_mending.specs.Locating.{Locates}
 use Rattle.silent_locate.proofs.Readings.{count_alike, alike_back, deep_by_readable, wrong_place_differs}
 use Rattle.silent_locate.proofs.Sectors.{length-cells_without, IsKept, kept_from, kept_to}
@@ -21,7 +21,7 @@ use Rattle.silent_locate.specs.declared.Located.{Located}
 use Rattle.silent_locate.specs.declared.Located.TheVariants.{Agrees, Wrong}
 use Rattle.silent_locate.specs.declared.LocateFault.{LocateFault}
 use Rattle.silent_locate.specs.declared.LocateFault.TheVariants.{TooMany, Mismatch}
-use Rattle.segment_io.proofs.SolvedCells.{slice_get-take}
+use Rattle.segment_solve.proofs.SolvedCells.{slice_get-take}
 use Rattle.qic_base.specs.CartridgeTerms.{is_lost}
 
 -- ---- one cell

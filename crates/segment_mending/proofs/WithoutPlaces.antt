@@ -6,8 +6,8 @@ use Rattle.cartridge_spec.specs.Says.{unreadable_count}
 use Rattle.command_spec.specs.Scrub.{Looked, cells_at}
 use Rattle.erasure_solve.specs.Lost.{lost_count}
 use Rattle.qic_base.specs.Cartridge.{Cartridge}
-use Rattle.segment_io.proofs.SolvedCells.{count_of_lost}
-use Rattle.segment_io.specs.Gathered.{NamesUnreadable}
+use Rattle.segment_solve.proofs.SolvedCells.{count_of_lost}
+use Rattle.segment_solve.specs.Gathered.{NamesUnreadable}
 use Rattle.segment_mending.specs.Locating.{DeepFinds, DeepMayFind}
 use Rattle.segment_mending.specs.Searching.{SearchFinds, SearchMayFind, searched_of}
 use Rattle.segment_mending.specs.declared.locating.Found.{Found}

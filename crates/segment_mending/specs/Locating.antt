@@ -13,7 +13,7 @@ use Rattle.qic_base.specs.Acts.{Act, Outside, TapeFails, SinkFails, Went, Cut}
 use Rattle.qic_base.specs.Alone.{no_source}
 use Rattle.qic_base.specs.Cartridge.{Cartridge}
 use Rattle.qic_base.specs.declared.tape.SectorView.{SectorView}
-use Rattle.segment_io.specs.Gathered.{NamesUnreadable}
+use Rattle.segment_solve.specs.Gathered.{NamesUnreadable}
 use Rattle.qic_base.specs.declared.store_fault.StoreFault.{StoreFault}
 use Rattle.segment_mending.specs.declared.locating.Found.{Found}
 use Rattle.segment_mending.specs.declared.locating.Found.TheVariants.{Reads, Fails}

@@ -13,7 +13,7 @@ ghost use Rattle.command_spec.specs.Scrub.{reads};
 ghost use Rattle.command_spec.specs.declared.depth.Depth.{Depth};
 ghost use Rattle.host_driver.specs.Calls.{Keeps};
 ghost use Rattle.segment_io.specs.Calls.{CanRead};
-ghost use Rattle.segment_io.specs.Gathered.{Gathered, NamesUnreadable};
+ghost use Rattle.segment_solve.specs.Gathered.{Gathered, NamesUnreadable};
 ghost use Rattle.segment_mending.specs.Locating.{Locates, data_in, HasBlock, IsDeep, Finds, IsFoundBy, MayBeBy, DeepFinds, DeepMayFind};
 ghost use Rattle.silent_locate.specs.Deep as deep;
 

@@ -17,7 +17,7 @@ use Rattle.dump_spec.specs.declared.form.Form.TheVariants as forms
 use Rattle.qic_base.specs.CartridgeTerms.{is_lost}
 use Rattle.qic_base.specs.declared.tape.SectorView.{SectorView}
 use Rattle.qic_base.specs.declared.tape.SectorView.TheVariants.{Holds}
-use Rattle.segment_io.specs.Gathered.{Gathered}
+use Rattle.segment_solve.specs.Gathered.{Gathered}
 use Rattle.segment_salvage.proofs.ReadingWhole.{bytes_as, whole_count, whole_places}
 use Rattle.segment_salvage.specs.Buffer.{buffer_view, buffer_cells}
 use Rattle.segment_salvage.specs.Counted.{CountsWithout}

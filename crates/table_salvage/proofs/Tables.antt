@@ -4,11 +4,11 @@ use Rattle.std.proofs.Common.{sym, subst, inl, inr, arith}
 use Rattle.std.proofs.lemmas.Bool.{cases_eq}
 use Rattle.std.proofs.lemmas.List.{length-take-le, take_at}
 use Rattle.std.proofs.lemmas.Nat.Bits.{bit_at-zero}
-use Rattle.cartridge_front.proofs.Collected.{left_some}
-use Rattle.cartridge_front.proofs.TableSegment.{collected_loses}
-use Rattle.cartridge_front.proofs.Trials.{IsCollected, has_data}
-use Rattle.cartridge_front.specs.Reading.{IsSolvedAt}
-use Rattle.cartridge_front.specs.declared.table_reader.Unread.{Unread}
+use Rattle.table_solve.proofs.Collected.{left_some}
+use Rattle.table_solve.proofs.Segment.{collected_loses}
+use Rattle.table_solve.proofs.Trials.{IsCollected, has_data}
+use Rattle.table_solve.specs.Reading.{IsSolvedAt}
+use Rattle.table_solve.specs.declared.unread.Unread.{Unread}
 use Rattle.cartridge_laws.proofs.TableSayings.{table_says_is_function}
 use Rattle.cartridge_laws.specs.Says.{LosesData}
 use Rattle.cartridge_spec.specs.Says.{TableSays, AsRead, ByCode, Data, LostSectors, Mismatch}
@@ -16,8 +16,8 @@ use Rattle.dump_spec.specs.Table.{IsTapeTable}
 use Rattle.qic_base.specs.Cartridge.{lost_places}
 use Rattle.qic_base.specs.CartridgeTerms.{IsLost}
 use Rattle.qic_base.specs.declared.tape.SectorView.{SectorView}
-use Rattle.segment_io.proofs.SolvedCells.{says_lost}
-use Rattle.segment_io.specs.Gathered.{Gathered}
+use Rattle.segment_solve.proofs.SolvedCells.{says_lost}
+use Rattle.segment_solve.specs.Gathered.{Gathered}
 use Rattle.volume_table.specs.Trials.{tried}
 
 -- ---- as they stand

@@ -10,12 +10,12 @@ ghost use Rattle.segment_salvage.specs.Buffer.{buffer_cells};
 ghost use Rattle.segment_salvage.specs.Reading.{given_as};
 
 use crate::solving::solve_table;
-use cartridge_front::data_sectors;
 use dump_spec::Form;
 use gf256_qic::DATA_SECTORS;
 use qic_base::{LostSet, Sector, WHOLE};
-use segment_io::Workspace;
 use segment_salvage::{SegmentReading, read_segment};
+use segment_solve::Workspace;
+use table_solve::data_sectors;
 
 /// By what the segment gives, as any segment does.
 fn give_table(

@@ -4,12 +4,12 @@ ghost use Rattle.std.specs.Prelude.{◌≡◌, ◌≤◌, List, length};
 ghost use Rattle.qic_base.specs.declared.tape.SectorView.{SectorView};
 ghost use Rattle.cartridge_laws.specs.Says.{LosesData};
 ghost use Rattle.qic_base.specs.Cartridge.{lost_places};
-ghost use Rattle.segment_io.specs.Gathered.{Gathered};
+ghost use Rattle.segment_solve.specs.Gathered.{Gathered};
 ghost use Rattle.table_salvage.specs.TapeTable.{FindsTapeTable};
 
-use cartridge_front::{data_sectors, solve_first};
 use qic_base::LostSet;
-use segment_io::Workspace;
+use segment_solve::Workspace;
+use table_solve::{data_sectors, solve_first};
 use volume_table::{Table, TableReading, last_used, trials};
 
 /// Makes the first 29 sectors the table's data by the code, where one to three sectors are lost, one of them of data, and

@@ -13,9 +13,9 @@ use Rattle.cartridge_laws.specs.Segment.{data_of}
 use Rattle.cartridge_spec.specs.Shape.{mask_at, usable_count}
 use Rattle.cartridge_laws.proofs.Segments.{count_of_cells}
 use Rattle.cartridge_spec.specs.Volumes.{bytes_in}
-use Rattle.segment_io.specs.Faults.{store_fault}
-use Rattle.segment_io.specs.Reading.{HasSolved, Solves, IsRead}
-use Rattle.segment_io.specs.declared.fault.SegFault.{SegFault}
+use Rattle.segment_solve.specs.Faults.{store_fault}
+use Rattle.segment_solve.specs.Reading.{HasSolved, Solves, IsRead}
+use Rattle.segment_solve.specs.declared.fault.SegFault.{SegFault}
 use Rattle.segment_io.proofs.Going.{tells_always}
 use Rattle.command_spec.specs.Numbers.{AreTooMany}
 use Rattle.command_spec.specs.Restore.{Piece, GivingEnd, Restored, LostIn, MismatchIn, PieceEnds, Restores}
@@ -32,7 +32,7 @@ use Rattle.qic_base.specs.SinkCalls as sink_calls
 use Rattle.qic_base.specs.Tape as tapes
 use Rattle.qic_base.specs.TapeCalls as tape_calls
 use Rattle.cartridge_spec.specs.Says as saying
-use Rattle.segment_io.specs.declared.fault.SegFault.TheVariants as seg
+use Rattle.segment_solve.specs.declared.fault.SegFault.TheVariants as seg
 
 -- ---- the act of a piece as it is printed
 

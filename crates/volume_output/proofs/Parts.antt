@@ -14,7 +14,7 @@ use Rattle.cartridge_spec.specs.Shape.{mask_at, usable_count, data_count, capaci
 use Rattle.cartridge_laws.proofs.Places.{count_below}
 use Rattle.cartridge_laws.proofs.Segments.{count_of_cells}
 use Rattle.command_spec.specs.Restore.{Piece, piece_cells}
-use Rattle.segment_io.specs.Reading.{HasSolved}
+use Rattle.segment_solve.specs.Reading.{HasSolved}
 use Rattle.volume_output.specs.Part.{ReadsPiece}
 use Rattle.volume_output.specs.Piece.{piece_of}
 use Rattle.volume_output.proofs.Walking.{left_behind, left_skipped, left_given}

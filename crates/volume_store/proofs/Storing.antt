@@ -36,7 +36,7 @@ use Rattle.cartridge_front.specs.Learning.{HasLearnt}
 use Rattle.volume_store.specs.Mounting.{Settles}
 use Rattle.cartridge_laws.proofs.TableOrders.{faultless_is_sound}
 use Rattle.std.proofs.lemmas.Option.{same_Some}
-use Rattle.cartridge_front.specs.declared.table_reader.Unread.{Unread}
+use Rattle.table_solve.specs.declared.unread.Unread.{Unread}
 use Rattle.cartridge_front.specs.Settling.{mending_steps, mending_places, collected_block}
 use Rattle.cartridge_front.proofs.Copies.{IsLearnt, told_learnt}
 use Rattle.cartridge_front.proofs.Settled.{mending_settles, writes_info}

@@ -3,8 +3,8 @@ use Rattle.qic_base.proofs.Steps.{Tells-map}
 use Rattle.cartridge_spec.specs.HeaderCopies.{copy_cells}
 use Rattle.host_driver.specs.Fits.{segments_of}
 use Rattle.segment_io.proofs.Going.{front_segment}
-use Rattle.segment_io.specs.Reading.{HasSolved, Solves}
-use Rattle.segment_io.specs.declared.fault.SegFault.{SegFault}
+use Rattle.segment_solve.specs.Reading.{HasSolved, Solves}
+use Rattle.segment_solve.specs.declared.fault.SegFault.{SegFault}
 use Rattle.qic_base.specs.TapeCalls.{Tells}
 use Rattle.cartridge_front.specs.Finding.{FindsCopy, TakesHeader}
 use Rattle.cartridge_front.proofs.Copies.{finds_copy, taken_map, takes_at}

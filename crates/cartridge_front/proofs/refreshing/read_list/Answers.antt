@@ -4,9 +4,9 @@ use Rattle.qic_base.proofs.Steps.{Tells-map}
 use Rattle.qic_base.specs.TapeCalls.{Tells}
 use Rattle.cartridge_spec.specs.TableSegment.{TableIs}
 use Rattle.cartridge_spec.specs.Table.{Entry, Shows}
-use Rattle.segment_io.specs.declared.fault.SegFault.{SegFault}
+use Rattle.segment_solve.specs.declared.fault.SegFault.{SegFault}
 use Rattle.qic_base.specs.declared.store_fault.StoreFault.{StoreFault}
-use Rattle.cartridge_front.specs.declared.table_reader.Unread.{Unread}
+use Rattle.table_solve.specs.declared.unread.Unread.{Unread}
 use Rattle.cartridge_front.specs.Again.{FindsList}
 use Rattle.cartridge_front.specs.Finding.{FindsTable, refusal_of}
 use Rattle.cartridge_front.proofs.Again.{list_missing, finds_fault}

@@ -1,6 +1,7 @@
 use Rattle.std.proofs.Common.{ℕ, ◌-◌, List, length, ap, ◌∙◌}
 use borrow.Rule.Slice.PartMut.{put_mid}
-use Rattle.cartridge_front.proofs.Stale.{put_stale_in, put_end}
+use Rattle.cartridge_front.proofs.Stale.{put_stale_in}
+use Rattle.table_solve.proofs.Places.{put_end}
 use Rattle.cartridge_front.proofs.settling.replace_parity.Goals as goal
 
 pub returns-clause-sectors : goal.returns-clause-sectors

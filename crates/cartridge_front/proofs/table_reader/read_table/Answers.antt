@@ -3,11 +3,11 @@ use Rattle.qic_base.proofs.Steps.{Tells-map}
 use Rattle.cartridge_laws.specs.Says.{LosesData}
 use Rattle.cartridge_spec.specs.Says.{LostSectors, ByCode, TableSays}
 use Rattle.cartridge_spec.specs.TableSegment.{table_cells, TableIs}
-use Rattle.segment_io.specs.Gathered.{Gathered}
+use Rattle.segment_solve.specs.Gathered.{Gathered}
 use Rattle.segment_io.proofs.Going.{front_segment}
-use Rattle.cartridge_front.specs.declared.table_reader.Unread.{Unread}
+use Rattle.table_solve.specs.declared.unread.Unread.{Unread}
 use Rattle.cartridge_front.specs.Finding.{FindsTable}
-use Rattle.cartridge_front.specs.Reading.{IsReadBut}
+use Rattle.table_solve.specs.Reading.{IsReadBut}
 use Rattle.cartridge_laws.proofs.Places.{count_below}
 use Rattle.cartridge_laws.proofs.Segments.{length-whole_cells}
 use Rattle.erasure_solve.specs.Lost.{lost_count}

@@ -3,8 +3,8 @@ use Rattle.host_driver.specs.Fits.{segments_of}
 use Rattle.qic_base.specs.declared.store_fault.StoreFault.{StoreFault}
 use Rattle.qic_base.proofs.Steps.{Tells-map}
 use Rattle.qic_base.specs.TapeCalls.{Tells}
-use Rattle.segment_io.specs.declared.fault.SegFault.{SegFault}
-use Rattle.cartridge_front.specs.declared.table_reader.Unread.{Unread}
+use Rattle.segment_solve.specs.declared.fault.SegFault.{SegFault}
+use Rattle.table_solve.specs.declared.unread.Unread.{Unread}
 use Rattle.cartridge_spec.specs.TableSegment.{TableIs}
 use Rattle.cartridge_front.specs.Finding.{NamesCause, FindsTable, FindsVolumes}
 use Rattle.command_laws.proofs.Passing.{passed}

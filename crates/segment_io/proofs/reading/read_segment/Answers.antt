@@ -1,6 +1,6 @@
 use Rattle.std.proofs.Common.{◌≡◌, ap, Err, arith}
 use Rattle.cartridge_laws.proofs.Places.{count_below}
-use Rattle.segment_io.specs.declared.fault.SegFault.TheVariants.{Lost, Mismatch}
+use Rattle.segment_solve.specs.declared.fault.SegFault.TheVariants.{Lost, Mismatch}
 use Rattle.segment_io.proofs.reading.read_segment.Goals as goal
 
 pub returns-in-Err-clause-read : goal.returns-in-Err-clause-read

@@ -1,5 +1,5 @@
 use Rattle.std.proofs.Common.{◌≡◌, ◌≤◌, ◌+◌, ◌++◌, ℕ, List, [], ◌∷◌, length, take, drop, ap, subst, sym, ◌∙◌, arith}
-use Rattle.std.proofs.lemmas.List.{with_items_is}
+use Rattle.qic_base.proofs.Arrays.{lent}
 use Rattle.qic_base.specs.Step.{Step, WriteSectors}
 use Rattle.qic_base.specs.TapeCalls.{Does}
 use Rattle.cartridge_spec.specs.Appending.{new_sectors}
@@ -8,7 +8,7 @@ use Rattle.cartridge_spec.specs.Shape.{usable_count, usable_places, data_count}
 use Rattle.cartridge_laws.specs.Writes.{block_in, segment_writes}
 use Rattle.cartridge_laws.proofs.Writing.{length-block_in}
 use Rattle.segment_io.specs.Writes.{first_sectors}
-use Rattle.segment_io.proofs.SolvedCells.{take_front}
+use Rattle.segment_solve.proofs.SolvedCells.{take_front}
 use Rattle.segment_io.proofs.writing.write_segment.Goals as goal
 
 -- the parity put behind the data makes them the block
@@ -26,9 +26,9 @@ pub returns-clause-parity : goal.returns-clause-parity
 returns-clause-parity g c =
     let first : List (List ℕ) = c.in-Some.sectors.now in
     let left : List (List ℕ) = c.put_parity.new.sectors in
-    let was : first ≡ c.args.work.now = c.in-Some.ensures.cases.same ∙ c.deref_mut.ensures.value ∙ c.work.view_is in
+    let was : first ≡ c.args.work.now = c.in-Some.ensures.cases.same ∙ c.sectors_mut.ensures.value in
     let all : c.from.result + 3 ≡ usable_count c.args.usable = omega arith in
-    with_items_is c.work.inside.sectors left (omega arith)
+    lent left c.args.work.now (omega arith)
     ∙ block_put c.args.usable c.from.result c.args.work.now left all
     (subst (λ (ss : List (List ℕ)). left ≡ take c.from.result ss ++ parity_sectors (take c.from.result ss) ++ drop (c.from.result + 3) ss)
     was c.put_parity.ensures.parity)
@@ -41,11 +41,11 @@ returns-clause-did g c =
     let left : List (List ℕ) = c.put_parity.new.sectors in
     let rest : List (List ℕ) = drop (usable_count usable) old in
     let room : usable_count usable ≤ length old =
-    subst (λ (ss : List (List ℕ)). usable_count usable ≤ length ss) (c.deref_mut.ensures.value ∙ c.work.view_is)
-    (omega (arith, c.count_usable-data.ensures, c.deref_mut.ensures.len, c.work.invariant)) in
+    subst (λ (ss : List (List ℕ)). usable_count usable ≤ length ss) c.sectors_mut.ensures.value
+    (omega (arith, c.count_usable-data.ensures, c.sectors_mut.ensures.size)) in
     let long : length (block_in usable old) ≡ usable_count usable = length-block_in usable old c.requires.segment.carries room in
     let parts : left ≡ block_in usable old ++ rest =
-    sym (with_items_is c.work.inside.sectors left (omega arith)) ∙ returns-clause-parity g c in
+    sym (lent left old (omega arith)) ∙ returns-clause-parity g c in
     let front : take (usable_count usable) left ≡ block_in usable old =
     ap (take (usable_count usable)) parts ∙ take_front (usable_count usable) (block_in usable old) rest long in
     let steps : WriteSectors segment (first_sectors usable left) ∷ [] ≡ segment_writes segment usable old =

@@ -7,8 +7,8 @@ use Rattle.command_spec.specs.declared.depth.Depth.TheVariants as depths
 use Rattle.qic_base.proofs.Steps.{Tells-map}
 use Rattle.qic_base.specs.TapeCalls.{Tells}
 use Rattle.segment_io.proofs.Going.{tells_then}
-use Rattle.segment_io.specs.Gathered.{Gathered, NamesUnreadable}
-use Rattle.segment_io.specs.Reading.{HasSolved, IsRead}
+use Rattle.segment_solve.specs.Gathered.{Gathered, NamesUnreadable}
+use Rattle.segment_solve.specs.Reading.{HasSolved, IsRead}
 use Rattle.segment_mending.specs.Locating.{DeepFinds, Finds, IsDeep, IsFoundBy}
 use Rattle.segment_mending.proofs.locating.find_in_segment.Goals as goal
 

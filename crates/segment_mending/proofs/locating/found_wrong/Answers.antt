@@ -3,7 +3,7 @@ use Rattle.cartridge_laws.proofs.Places.{count_below, usable_small}
 use Rattle.cartridge_spec.specs.Shape.{usable_count}
 use Rattle.cartridge_spec.specs.Volumes.{worn}
 use Rattle.command_spec.specs.Scrub.{Looked, cells_at, reads, HasFoundBy}
-use Rattle.segment_io.specs.Gathered.{NamesUnreadable}
+use Rattle.segment_solve.specs.Gathered.{NamesUnreadable}
 use Rattle.segment_mending.specs.Locating.{data_in}
 use Rattle.segment_mending.proofs.Finding as finding
 use Rattle.segment_mending.proofs.locating.found_wrong.Goals as goal

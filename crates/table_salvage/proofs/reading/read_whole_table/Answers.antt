@@ -3,7 +3,7 @@ use Rattle.cartridge_laws.specs.Segment.{hidden}
 use Rattle.cartridge_spec.specs.Says.{whole_mask}
 use Rattle.dump_spec.specs.declared.form.Form.TheVariants as forms
 use Rattle.qic_base.specs.declared.tape.SectorView.{SectorView}
-use Rattle.segment_io.specs.Gathered.{Gathered}
+use Rattle.segment_solve.specs.Gathered.{Gathered}
 use Rattle.segment_salvage.specs.Buffer.{buffer_cells}
 use Rattle.table_salvage.proofs.TableData.{four_usable, gives_29, whole_data, gathered_counted, length-counted}
 use Rattle.table_salvage.proofs.reading.read_whole_table.Goals as goal

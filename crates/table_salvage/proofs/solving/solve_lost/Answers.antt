@@ -1,7 +1,7 @@
 use Rattle.std.proofs.Common.{ℕ, List, Option, subst, arith}
-use Rattle.cartridge_front.proofs.Collected.{collected, last_data, used_small, tried_sets, few_tried}
-use Rattle.cartridge_front.proofs.Trials.{says_mismatch}
-use Rattle.cartridge_front.specs.Reading.{IsSolvedAt, IsUnsolved}
+use Rattle.table_solve.proofs.Collected.{collected, last_data, used_small, tried_sets, few_tried}
+use Rattle.table_solve.proofs.Trials.{says_mismatch}
+use Rattle.table_solve.specs.Reading.{IsSolvedAt, IsUnsolved}
 use Rattle.volume_table.specs.Trials.{AreTrials, tried}
 use Rattle.table_salvage.proofs.Tables.{has_table, none_mismatch}
 use Rattle.table_salvage.proofs.solving.solve_lost.Goals as goal

@@ -1,5 +1,5 @@
 use Rattle.std.proofs.Common.{refl, inl}
-use Rattle.cartridge_front.proofs.TableSegment.{collected_reads}
+use Rattle.table_solve.proofs.Segment.{collected_reads}
 use Rattle.table_salvage.proofs.Tables.{none_many}
 use Rattle.table_salvage.proofs.solving.solve_table.Goals as goal
 

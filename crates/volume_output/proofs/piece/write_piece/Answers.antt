@@ -2,8 +2,8 @@ use Rattle.std.proofs.Common.{ap, subst, ◌∙◌, ℕ, List, Result, Err}
 use Rattle.std.proofs.lemmas.Result.{err_from_is_err_and}
 use Rattle.cartridge_spec.specs.Says.{cells_of}
 use Rattle.qic_base.specs.TapeCalls.{Tells}
-use Rattle.segment_io.specs.Reading.{HasSolved, IsRead, Solves}
-use Rattle.segment_io.specs.declared.fault.SegFault.{SegFault}
+use Rattle.segment_solve.specs.Reading.{HasSolved, IsRead, Solves}
+use Rattle.segment_solve.specs.declared.fault.SegFault.{SegFault}
 use Rattle.volume_output.specs.Form.{is_lined}
 use Rattle.volume_output.proofs.Bytes.{Holds, count_within}
 use Rattle.volume_output.proofs.OnePiece.{failed_by, unread, not_read, read_block, read_solved, gave, ungiven}

@@ -1,7 +1,0 @@
-use Rattle.std.proofs.Common.{refl}
-use Rattle.cartridge_front.proofs.Collected.{left_some}
-use Rattle.cartridge_front.proofs.table_reader.left_out.Goals as goal
-
-pub returns-in-Some : goal.returns-in-Some
-returns-in-Some c = left_some c.args.set c.from_mask.result c.in-Some.place c.args.used c.in-Some.is c.requires
-    (c.if-contains.ensures.lost.0 refl) c.from_mask.ensures

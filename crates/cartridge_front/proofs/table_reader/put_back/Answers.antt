@@ -1,8 +1,0 @@
-use Rattle.cartridge_front.proofs.Collected.{put_in}
-use Rattle.cartridge_front.proofs.table_reader.put_back.Goals as goal
-
-pub returns : goal.returns
-returns c =
-    put_in c.args.work.now c.sectors_mut-sectors.result.now c.copy_from_slice.new.self c.args.parity.now c.sectors_mut-sectors.ensures.value
-    c.copy_from_slice.ensures.after
-    c.requires c.told-parity

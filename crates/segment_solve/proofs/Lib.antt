@@ -1,0 +1,2 @@
+pub mod GatheredCells
+pub mod SolvedCells

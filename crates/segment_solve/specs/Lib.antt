@@ -1,0 +1,4 @@
+pub mod Faults
+pub mod Gathered
+pub mod Lending
+pub mod Reading
