@@ -1,5 +1,5 @@
 //! What an image file tells: its head, and what it holds of its sectors.
-ghost use Rattle.std.specs.Prelude.{◌≡◌, ℕ, ◌+◌, ◌*◌, ◌<◌, ◌≤◌, List, length, slice_index, slice_index_or, slice_range, IfOk, IfSome, OnErr, true, false};
+ghost use Rattle.std.specs.Prelude.{◌≡◌, ℕ, ◌+◌, ◌*◌, ◌<◌, ◌≤◌, List, length, slice_index, slice_index_or, slice_range, IfOk, IfSome, OnErr, OnOk, true, false};
 ghost use Rattle.qic_base.specs.Cause.{HasCause};
 ghost use Rattle.qic_base.specs.Disk.{IsSettled};
 ghost use Rattle.cart_image.specs.Image.{base_kind, kind_by, layout_by, head_by as head_told, head_of, view_by, view_in, sector_bytes};
@@ -99,6 +99,7 @@ fn head_by(len: u64, head: &[u8; 24]) -> Option<Head>
 /// What the head of the file tells; None where it is no image.
 pub fn read_head<D: Disk>(disk: &mut D) -> Result<Option<Head>, DiskFailed>
     ensures looked { Looked D.means disk.old disk.new result }
+    ensures stood { OnOk result (D.means.faults disk.new ≡ D.means.faults disk.old) }
     ensures head { IfOk result (λ head.
         IfSome (D.means.told disk.old) (λ bytes. head ≡ head_of bytes)) }
     ensures fits { IfOk result (λ head. IfSome head (λ h.

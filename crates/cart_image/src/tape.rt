@@ -34,7 +34,8 @@ pub struct ImageTape<D: Disk> {
     layout: Option<Layout>,
     /// What the planes say of the segment that was looked at last; None where that is not known, and in version 2.
     known: Option<SegmentStates>,
-    /// How many of the calls of the tape failed, or the greatest u64 where there were more.
+    /// The disk's count of faults when the tape was opened, and one more for each of the tape's calls that failed; or the
+    /// greatest u64 where there were more.
     faults: u64,
     ghost settled: { (bytes left : List ℕ) →
         D.means.told disk ≡ Some bytes → D.means.may_leave disk left → left ≡ bytes },
@@ -51,17 +52,30 @@ impl<D: Disk> ImageTape<D> {
     ghost use Rattle.cart_image.specs.ImageTape.{disk_of, layout_at, known_of, faults_of, image_means};
     ghost use Rattle.cart_image.specs.Run.{Looked};
 
-    /// A tape in this file, of which nothing is known yet. It makes no call of the disk.
-    pub fn open(disk: D) -> ImageTape<D>
-        requires { D.means.tells_stops disk ≡ true → IsSettled D.means disk }
+    /// A tape in this file, of which nothing is known yet. It makes no call of the disk, and starts with the disk's count of
+    /// faults.
+    pub fn open(disk: D, faults: u64) -> ImageTape<D>
+        requires settled { D.means.tells_stops disk ≡ true → IsSettled D.means disk }
+        requires faults { D.means.faults disk ≡ faults }
         ensures disk { disk_of result ≡ disk }
         ensures size { image_means.size result ≡ None }
+        ensures faults { image_means.faults result ≡ D.means.faults disk }
     {
         ImageTape {
             disk,
             layout: None,
             known: None,
-            faults: 0,
+            faults,
+        }
+    }
+
+    /// The least length of a file that holds the image that the tape found or made, in bytes; None where none is known.
+    pub fn image_len(&self) -> Option<u64>
+        ensures { result ≡ option_map end_of (layout_at self.now) }
+    {
+        match self.layout {
+            Some(layout) => Some(layout.end()),
+            None => None,
         }
     }
 
@@ -251,8 +265,10 @@ impl<D: Disk> Tape for ImageTape<D> {
             image_means.size self.new ≡ option_map (λ i. i.segments_per_track) info) }
         ensures failed { OnErr result (image_means.size self.new ≡ image_means.size self.old) }
 
-        // It only looks at the disk.
+        // It only looks at the disk, and no look failed where it succeeds.
         ensures looked { Looked D.means (disk_of self.old) (disk_of self.new) result }
+        ensures stood { OnOk result (D.means.faults (disk_of self.new)
+            ≡ D.means.faults (disk_of self.old)) }
         ensures changes { OnOk result (D.means.failed_changes (disk_of self.new)
             ≡ D.means.failed_changes (disk_of self.old)) }
     {

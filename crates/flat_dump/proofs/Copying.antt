@@ -10,7 +10,7 @@ use Rattle.std.proofs.Math.ListN.{get_or-append}
 use Rattle.std.proofs.Math.Seq.{drop-append-add}
 use Rattle.std.proofs.lemmas.Bool.{cases_lt, leb-true, leb-false, le-leb, lt-leb}
 use Rattle.std.proofs.lemmas.List.{take_all, take-append-le, drop-append-le, drop-drop, get_or-append_right, length-append, length-drop}
-use Rattle.std.proofs.lemmas.List.{length-take-le, append-nil}
+use Rattle.std.proofs.lemmas.List.{length-take-le, length-replicate, append-nil}
 use Rattle.std.proofs.lemmas.List.FromFn.{get_or-map-range_with_len, length-map-range_with_len}
 use Rattle.std.proofs.lemmas.List.Sums.{sum_by-append}
 use Rattle.cart_image.specs.Layout.{cells_len}
@@ -22,7 +22,7 @@ use Rattle.qic_base.specs.declared.tape.SectorView.TheVariants.{Blank, Lost, Hol
 use Rattle.rescue_map.specs.Text.{is_marked}
 use Rattle.sector_fill.specs.Filling.{AreFilled}
 use Rattle.flat_dump.specs.Cells.{AreWhole, is_held, cell_in, view_in, cells_of, views_of, joined}
-use Rattle.flat_dump.specs.Import.{IsNoImage, counted, lost_bit, lost_count}
+use Rattle.flat_dump.specs.Import.{GaveFew, IsNoImage, lost_bit, lost_count}
 use Rattle.flat_dump.specs.Imported.{imported_view}
 use Rattle.flat_dump.specs.Importing.{IsCell, IsLaid, StoodSince, Unfinished, WasCopied, begun}
 use Rattle.flat_dump.specs.declared.importing.Copied.{Copied}
@@ -349,17 +349,17 @@ copied_to_end s m first now old new mask most segments lost bytes copied so_far 
     }
 
 pub copied_to_limit : {S D : Type 0} (s : sources.Meaning S) (m : disks.Meaning D) (first now : S) (old new : D) (mask : List ℕ)
-    (most lost counts : ℕ) (copied : Copied) →
+    (most lost more : ℕ) (copied : Copied) →
     CopiedSoFar s m first now old new mask most lost (32768 * most) → (rest : List ℕ) × IsInput (s.left now) rest
-    × (counts ≡ counted (32768 * most + length rest)) →
-    copied.segments ≡ most → copied.lost ≡ lost → copied.bytes ≡ counts → WasCopied s m first old new mask most copied
-copied_to_limit s m first now old new mask most lost counts copied so_far (rest, told, is) is_segments is_lost is_bytes =
+    × (more ≡ min (length rest) 1) →
+    copied.segments ≡ most → copied.lost ≡ lost → copied.bytes ≡ 32768 * most + more → WasCopied s m first old new mask most copied
+copied_to_limit s m first now old new mask most lost more copied so_far (rest, told, is) is_segments is_lost is_bytes =
     let long = so_far.long in
     let both = length-append so_far.text rest in
     record {
       dump = so_far.text ++ rest;
       told = IsInput-rest s first now so_far.text rest so_far.gave told;
-      bytes = is_bytes ∙ is ∙ ap counted (omega arith);
+      bytes = omega arith;
       within = omega arith;
       needed = omega arith;
       whole = λ less. absurd (omega arith);
@@ -379,60 +379,33 @@ no_image_yet m first now file u = record {
   stays = stays_as m first now IsUnsigned IsNoImage IsNoImage IsNoImage unsigned_none (λ b none. none) u.stays;
 }
 
--- ---- bytes that are counted alone
+-- ---- how many bytes the source gave
 
--- a read that gave no byte came to the end
-gives_ended : (o : Option (List ℕ)) (into : List ℕ) (n : ℕ) → IfSome o (λ bytes. Gives bytes into n) → n ≡ 0 →
-    IfSome o (λ bytes. bytes ≡ [])
-gives_ended None into n gives none = tt
-gives_ended (Some bytes) into n gives none = gives.ended.0 none
+pub few_more : {S D : Type 0} (s : sources.Meaning S) (m : disks.Meaning D) (first now next : S) (old new : D) (mask : List ℕ)
+    (segment lost most room : ℕ) (bytes : List ℕ) → CopiedSoFar s m first now old new mask segment lost (32768 * segment) →
+    length bytes ≤ room → 32768 * segment + room ≤ most → Gave s now next bytes → GaveFew s first next most
+few_more s m first now next old new mask segment lost most room bytes so_far short within gave =
+    let long = so_far.long in
+    let both = length-append so_far.text bytes in
+    (so_far.text ++ bytes, omega arith, Gave-Gave s first now next so_far.text bytes so_far.gave gave)
 
-pub record CountedSoFar {S : Type 0} (s : sources.Meaning S) (first now : S) (before bytes reads : ℕ) : Type 0 where
-  pub given : List ℕ
-  pub gave : Gave s first now given
-  pub is : bytes ≡ counted (before + length given)
-  pub enough : reads ≤ length given
+-- ---- the byte behind the segments
 
-pub none_counted_yet : {S : Type 0} (s : sources.Meaning S) (source : S) (before : ℕ) → before ≤ 2 ^ 64 - 1 →
-    CountedSoFar s source source before before 0
-none_counted_yet s source before fits = record {
-  given = [];
-  gave = Gave-nothing s source source refl;
-  is = omega arith;
-  enough = omega arith;
-}
+pub counts_next : (o : Option (List ℕ)) (into : List ℕ) (n : ℕ) → n ≤ 1 → IfSome o (λ bytes. Gives bytes into n) → (rest : List ℕ)
+    × IsInput o rest × (n ≡ min (length rest) 1)
+counts_next None into n within gives = (replicate n 0, tt, omega (arith, length-replicate {A = ℕ} n 0))
+counts_next (Some bytes) into n within gives =
+    let there = gives.there in
+    let is : n ≡ min (length bytes) 1 = ⊎_elim
+    (λ some. omega arith)
+    (λ none.
+    let zero_is : n ≡ 0 = omega arith in
+    let e : length bytes ≡ 0 = ap (λ (xs : List ℕ). length xs) (gives.ended.0 zero_is) in omega arith)
+    (cases_lt 0 n) in
+    (bytes, refl, is)
 
-pub counted_more : {S : Type 0} (s : sources.Meaning S) (first now next : S) (before bytes reads n : ℕ) (into : List ℕ) →
-    CountedSoFar s first now before bytes reads → n ≢ 0 → n ≤ length into →
-    IfSome (s.left now) (λ left. Gives left into n) → s.left next ≡ option_map (drop n) (s.left now) →
-    CountedSoFar s first next before (min (bytes + n) (2 ^ 64 - 1)) (reads + 1)
-counted_more s first now next before bytes reads n into so_far some within gives left =
-    let size = length-append so_far.given (take n into) in
-    let few = length-take-le n into within in
-    let is = so_far.is in
-    let enough = so_far.enough in
-    let more : 0 < n = ⊎_elim (λ below. below) (λ past. absurd (some (omega arith))) (cases_lt 0 n) in
-    record {
-      given = so_far.given ++ take n into;
-      gave = Gave-Gave s first now next so_far.given (take n into) so_far.gave (Gave-read s now next into n gives left);
-      is = omega arith;
-      enough = omega arith;
-    }
-
-pub counted_to_end : {S : Type 0} (s : sources.Meaning S) (first now : S) (before bytes reads : ℕ) (into : List ℕ) (n : ℕ) →
-    CountedSoFar s first now before bytes reads → n ≡ 0 →
-    IfSome (s.left now) (λ left. Gives left into n) → (rest : List ℕ) × IsInput (s.left first) rest
-    × (bytes ≡ counted (before + length rest))
-counted_to_end s first now before bytes reads into n so_far none gives =
-    (so_far.given, IsInput-ended s first now so_far.given so_far.gave (gives_ended (s.left now) into n gives none), so_far.is)
-
--- as many as are counted
-pub counted_to_limit : {S : Type 0} (s : sources.Meaning S) (first now : S) (before bytes reads : ℕ) →
-    CountedSoFar s first now before bytes reads → 2 ^ 64 - 1 ≤ reads →
-    (rest : List ℕ) × IsInput (s.left first) rest × (bytes ≡ counted (before + length rest))
-counted_to_limit s first now before bytes reads so_far many =
-    let some = IsInput-some s first now so_far.given so_far.gave in
-    let size = length-append so_far.given some.0 in
-    let is = so_far.is in
-    let enough = so_far.enough in
-    (so_far.given ++ some.0, some.1, omega arith)
+pub gave_next : {S : Type 0} (s : sources.Meaning S) (now next : S) (into : List ℕ) (n : ℕ) → length into ≡ 1 → n ≤ 1 →
+    IfSome (s.left now) (λ left. Gives left into n) → s.left next ≡ option_map (drop n) (s.left now) → GaveFew s now next 1
+gave_next s now next into n room within gives left =
+    let few = length-take-le n into (omega arith) in
+    (take n into, omega arith, Gave-read s now next into n gives left)

@@ -1,5 +1,6 @@
 -- How an import ends.
-use Rattle.std.proofs.Common.{◌≡◌, ℕ, ◌+◌, ◌-◌, ◌*◌, ◌<◌, ◌≤◌, inl, inr, Bool, true, false, List, [], ◌++◌, length, get_or, replicate, map}
+use Rattle.std.proofs.Common.{◌≡◌, ℕ, ◌+◌, ◌-◌, ◌*◌, ◌<◌, ◌≤◌, inl, inr, Bool}
+use Rattle.std.proofs.Common.{true, false, List, [], ◌++◌, length, get_or, replicate, map, min}
 use Rattle.std.proofs.Common.{nat_le, ◌&&◌, if◌then◌else◌, Option, Some, None, IfSome, Result, Err, ⊎_elim, refl, sym, ◌∙◌, ap, subst}
 use Rattle.std.proofs.Common.{arith}
 use Rattle.std.specs.List.{range_with_len, slice_range}
@@ -22,7 +23,7 @@ use Rattle.cart_image.specs.Layout.{resize}
 use Rattle.cart_image.specs.Run.{Runs}
 use Rattle.rescue_map.specs.Text.{is_marked}
 use Rattle.flat_dump.specs.Cells.{lost_cell}
-use Rattle.flat_dump.specs.Import.{IsDumpOf, IsNoDump, IsNoImage, IsNoneOrWhole, Cleared, WasImported, Imports, counted, lost_bit}
+use Rattle.flat_dump.specs.Import.{IsDumpOf, IsNoDump, IsNoImage, IsNoneOrWhole, Cleared, WasImported, Imports, counted, limit, lost_bit}
 use Rattle.flat_dump.specs.Import.{lost_count}
 use Rattle.flat_dump.specs.Imported.{imported_by, imported_view}
 use Rattle.flat_dump.specs.Importing.{IsCell, IsLaid, IsNoneOr, FailedSince, Finished, Unfinished, WasCopied, Copies, Fills, begun}
@@ -41,16 +42,23 @@ pub fits_within : (asked : Option ℕ) (len n : ℕ) → IsDumpOf asked len n �
 fits_within None len n fits = omega arith
 fits_within (Some m) len n fits = let e = fits.0 in let l = fits.1 in omega arith
 
-pub fits_counted : (asked : Option ℕ) (len n : ℕ) → IsLength n → IsDumpOf asked (counted len) n → IsDumpOf asked len n
+pub fits_counted : (asked : Option ℕ) (len n : ℕ) → IsLength n → IsDumpOf asked (counted asked len) n → IsDumpOf asked len n
 fits_counted None len n long fits = let l = long.longest in omega arith
 fits_counted (Some m) len n long fits = let l = long.longest in let e = fits.0 in let f = fits.1 in (e, omega arith)
 
-none_counted : (asked : Option ℕ) (len : ℕ) → IsNoDump asked (counted len) → IsNoDump asked len
+-- a dump of some cartridge is read whole
+read_whole : (asked : Option ℕ) (len n : ℕ) → IsLength n → IsDumpOf asked len n → len ≡ counted asked len
+read_whole None len n long fits = let l = long.longest in omega arith
+read_whole (Some m) len n long fits = let f = fits.1 in omega arith
+
+none_counted : (asked : Option ℕ) (len : ℕ) → IsNoDump asked (counted asked len) → IsNoDump asked len
 none_counted asked len none n long fits =
-    let within = fits_within asked len n fits in
-    let l = long.longest in
-    let same : len ≡ counted len = omega arith in
-    none n long (subst (λ (k : ℕ). IsDumpOf asked k n) same fits)
+    none n long (subst (λ (k : ℕ). IsDumpOf asked k n) (read_whole asked len n long fits) fits)
+
+-- so many bytes were read
+pub read_by : (asked : Option ℕ) (most len bytes : ℕ) → 32768 * most ≡ limit asked → bytes ≡ min len (32768 * most + 1) →
+    bytes ≡ counted asked len
+read_by asked most len bytes is read = read ∙ ap (λ (k : ℕ). min len (k + 1)) is
 
 -- ---- the sectors that a dump lacks
 
@@ -219,13 +227,14 @@ copies_failed s m source ended first old new mask most asked error.Disk copies b
 
 pub refused_is : {S D : Type 0} (s : sources.Meaning S) (m : disks.Meaning D) (source ended : S) (first old new : D) (mask : List ℕ)
     (most : ℕ) (asked : Option ℕ) (copied : Copied) →
-    WasCopied s m source old new mask most copied → IsNoDump asked copied.bytes → Unfinished m first old begun →
-    Fills s m source ended first new mask asked (Err (error.Length copied.bytes))
-refused_is s m source ended first old new mask most asked copied was none begins =
+    WasCopied s m source old new mask most copied → 32768 * most ≡ limit asked → IsNoDump asked copied.bytes →
+    Unfinished m first old begun → Fills s m source ended first new mask asked (Err (error.Length copied.bytes))
+refused_is s m source ended first old new mask most asked copied was is none begins =
+    let read = read_by asked most (length was.dump) copied.bytes is was.bytes in
     record {
       dump = was.dump;
       told = was.told;
-      none = none_counted asked (length was.dump) (subst (IsNoDump asked) was.bytes none);
-      count = was.bytes;
+      none = none_counted asked (length was.dump) (subst (IsNoDump asked) read none);
+      count = read;
       since = no_image_yet m first new was.file (was.goes first begins);
     }

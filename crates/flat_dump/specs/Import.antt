@@ -1,10 +1,11 @@
 -- How an import ended (this project's own).
-use Rattle.std.specs.Prelude.{◌≡◌, ℕ, ◌-◌, ◌*◌, ◌^◌, ◌≤◌, ◌⊎◌, true, List, [], length, min, sum_by, Option, Some, None, IfSome, Result, Ok}
+use Rattle.std.specs.Prelude.{◌≡◌, ℕ, ◌+◌, ◌*◌, ◌≤◌, ◌⊎◌, true, List, [], length, min, sum_by, Option, Some, None, IfSome, Result, Ok}
 use Rattle.std.specs.Prelude.{Err}
 use Rattle.qic_base.specs.Cartridge.{IsLength}
 use Rattle.qic_base.specs.Tape.{Rose}
 use Rattle.qic_base.specs.Disk as disks
 use Rattle.qic_base.specs.Source as sources
+use Rattle.qic_base.specs.SourceCalls.{Gave}
 use Rattle.qic_base.specs.declared.tape.SectorView.{SectorView}
 use Rattle.qic_base.specs.declared.tape.SectorView.TheVariants.{Blank, Defect, Lost, Holds}
 use Rattle.cart_image.specs.Image.{cartridge_of}
@@ -25,9 +26,14 @@ IsDumpOf (Some m) bytes n = (n ≡ m) × (bytes ≤ 917504 * m)
 abbrev pub IsNoDump : (asked : Option ℕ) → (bytes : ℕ) → Type 0
 IsNoDump asked bytes = (n : ℕ) → IsLength n → IsDumpOf asked bytes n → ⊥
 
--- a number of bytes, which goes up to the greatest u64 alone
-abbrev pub counted : ℕ → ℕ
-counted bytes = min bytes (2 ^ 64 - 1)
+-- the length of the longest dump: of those segments per track that are asked for, or of 246
+abbrev pub limit : (asked : Option ℕ) → ℕ
+limit None = 917504 * 246
+limit (Some m) = 917504 * m
+
+-- a number of bytes that are read: of a dump that is longer than that, one more
+abbrev pub counted : (asked : Option ℕ) (bytes : ℕ) → ℕ
+counted asked bytes = min bytes (limit asked + 1)
 
 -- ---- sectors
 
@@ -42,6 +48,10 @@ abbrev pub lost_count : List SectorView → ℕ
 lost_count views = sum_by lost_bit views
 
 -- ---- the outside
+
+-- from old to new the source gave no more bytes than these
+abbrev pub GaveFew : {S : Type 0} (s : sources.Meaning S) (old new : S) (most : ℕ) → Type 0
+GaveFew s old new most = (bytes : List ℕ) × (length bytes ≤ most) × Gave s old new bytes
 
 -- an empty file, in which nothing is pending
 pub record IsEmpty {D : Type 0} (m : disks.Meaning D) (disk : D) : Type 0 where
@@ -94,13 +104,13 @@ pub record WasImported {S D : Type 0} (s : sources.Meaning S) (m : disks.Meaning
   pub lost : imported.lost ≡ lost_count (imported_by dump mask n).views
   pub crashes : CrashesLeave m old new (IsNoneOrWhole s source mask asked)
 
--- The dump is none of a cartridge, and has so many bytes.
+-- The dump is none of a cartridge, and so many of its bytes were read: all of them, or one more than the longest has.
 pub record WasRefused {S D : Type 0} (s : sources.Meaning S) (m : disks.Meaning D) (source : S) (old new : D) (asked : Option ℕ)
     (bytes : ℕ) : Type 0 where
   pub dump : List ℕ
   pub told : IsInput (s.left source) dump
   pub none : IsNoDump asked (length dump)
-  pub count : bytes ≡ counted (length dump)
+  pub count : bytes ≡ counted asked (length dump)
   pub cleared : Cleared m old new IsNoImage
   pub crashes : CrashesLeave m old new IsNoImage
 

@@ -1,5 +1,6 @@
 -- How an import goes on (this project's own).
-use Rattle.std.specs.Prelude.{◌≡◌, ℕ, ◌+◌, ◌*◌, ◌<◌, ◌≤◌, ◌⊎◌, List, [], ◌++◌, drop, length, replicate, Option, Some, None, is_some, IsSome}
+use Rattle.std.specs.Prelude.{◌≡◌, ℕ, ◌+◌, ◌*◌, ◌<◌, ◌≤◌, ◌⊎◌, List, []}
+use Rattle.std.specs.Prelude.{◌++◌, drop, length, min, replicate, Option, Some, None, is_some, IsSome}
 use Rattle.std.specs.Prelude.{true, Result, Ok, Err, slice_index, slice_index_or, slice_range}
 use Rattle.std.specs.Option.{option_map}
 use Rattle.qic_base.specs.Cartridge.{IsLength}
@@ -97,17 +98,17 @@ image_with n file = made_head true n ++ drop head_len file
 
 -- ---- the dump
 
--- the source was read to its end, and these are its bytes and those before them, counted
-abbrev pub Counts : {S E : Type 0} (s : sources.Meaning S) (source : S) (before : ℕ) → Result ℕ E → Type 0
-Counts s source before (Ok bytes) = (rest : List ℕ) × IsInput (s.left source) rest × (bytes ≡ counted (before + length rest))
-Counts s source before (Err e) = Unit {0}
+-- whether a byte is left of the source, as a number
+abbrev pub CountsNext : {S E : Type 0} (s : sources.Meaning S) (source : S) → Result ℕ E → Type 0
+CountsNext s source (Ok n) = (rest : List ℕ) × IsInput (s.left source) rest × (n ≡ min (length rest) 1)
+CountsNext s source (Err e) = Unit {0}
 
--- The segments of the dump were copied, up to so many, and its bytes were counted.
+-- The segments of the dump were copied, up to so many, and its bytes were counted, up to one more.
 pub record WasCopied {S D : Type 0} (s : sources.Meaning S) (m : disks.Meaning D) (source : S) (old new : D) (mask : List ℕ) (most : ℕ)
     (copied : Copied) : Type 0 where
   pub dump : List ℕ
   pub told : IsInput (s.left source) dump
-  pub bytes : copied.bytes ≡ counted (length dump)
+  pub bytes : copied.bytes ≡ min (length dump) (32768 * most + 1)
   pub within : copied.segments ≤ most
   pub needed : 32768 * copied.segments < length dump + 32768
   pub whole : copied.segments < most → length dump ≤ 32768 * copied.segments
@@ -135,13 +136,13 @@ Fits asked bytes (Some n) = IsLength n × IsDumpOf asked bytes n
 
 -- ---- the image
 
--- The dump is none of a cartridge, and has so many bytes.
+-- The dump is none of a cartridge, and so many of its bytes were read.
 pub record IsRefused {S D : Type 0} (s : sources.Meaning S) (m : disks.Meaning D) (source : S) (old new : D) (asked : Option ℕ)
     (bytes : ℕ) : Type 0 where
   pub dump : List ℕ
   pub told : IsInput (s.left source) dump
   pub none : IsNoDump asked (length dump)
-  pub count : bytes ≡ counted (length dump)
+  pub count : bytes ≡ counted asked (length dump)
   pub since : StoodSince m old new
 
 -- how the writing of an image ended

@@ -5,8 +5,8 @@ ghost use Rattle.qic_base.specs.Cartridge.{IsLength};
 ghost use Rattle.qic_base.specs.Cause.{HasCause};
 ghost use Rattle.rescue_map.specs.Laws.{most_words};
 ghost use Rattle.cart_image.specs.Layout.{head_len, cells_len};
-ghost use Rattle.flat_dump.specs.Import.{IsDumpOf, IsEmpty, CountsBy, Imports};
-ghost use Rattle.flat_dump.specs.Importing.{Unfinished, Ends, Counts, Copies, Fits, Fills, begun, lost_cells, image_with};
+ghost use Rattle.flat_dump.specs.Import.{IsDumpOf, IsEmpty, CountsBy, GaveFew, Imports, limit};
+ghost use Rattle.flat_dump.specs.Importing.{Unfinished, Ends, CountsNext, Copies, Fits, Fills, begun, lost_cells, image_with};
 
 use crate::cells::{append_lost, write_segment};
 use cart_image::making::{begin, clear, sign};
@@ -31,7 +31,7 @@ pub struct Imported {
 /// Why a dump was not imported.
 #[derive(Clone, Copy)]
 pub enum ImportError {
-    /// The dump has so many bytes, as many as no cartridge; `u64::MAX` stands for more.
+    /// So many bytes of the dump were read: all that it has, as many as no cartridge, or one more than the longest has.
     Length { bytes: u64 },
     /// A read of the dump failed.
     Source,
@@ -47,25 +47,22 @@ struct Copied {
     bytes: u64,
 }
 
-/// Reads the source to its end, and answers so many bytes more than before.
-fn count_rest<S: Source>(source: &mut S, before: u64) -> Result<u64, SourceFailed>
-    ensures counts { Counts S.means source.old before result }
+/// Whether a source has one byte more, as a number: 1 where it had one, which was read, and 0 at its end.
+fn count_next<S: Source>(source: &mut S) -> Result<u64, SourceFailed>
+    ensures counts { CountsNext S.means source.old result }
+    ensures gave { GaveFew S.means source.old source.new 1 }
+    ensures one { IfOk result (λ n. n ≤ 1) }
     ensures kept { S.means.keeps source.old source.new }
     ensures cause { HasCause (S.means.faults source.old) (S.means.faults source.new) result }
 {
-    let mut buffer = [0; SEGMENT_LEN as usize];
-    let mut bytes = before;
-    for _ in 0..u64::MAX {
-        match source.read(&mut buffer) {
-            Ok(0) => return Ok(bytes),
-            Ok(count) => bytes = bytes.saturating_add(count as u64),
-            Err(fault) => return Err(fault),
-        }
+    match source.read(&mut [0]) {
+        Ok(count) => Ok(count as u64),
+        Err(fault) => Err(fault),
     }
-    Ok(bytes)
 }
 
-/// Copies the segments of a dump, the last of which may be a part of one, up to so many. Bytes behind them are counted.
+/// Copies the segments of a dump, the last of which may be a part of one, up to so many. Of the bytes behind them one is read
+/// and counted.
 fn copy_segments<S: Source, D: Disk>(
     source: &mut S,
     mask: &[u32],
@@ -77,6 +74,7 @@ fn copy_segments<S: Source, D: Disk>(
     requires seen { head_len ≤ D.means.seen_len disk.old }
     ensures copies { Copies S.means D.means source.old source.new disk.old disk.new
         mask.now most result }
+    ensures gave { GaveFew S.means source.old source.new (32768 * most + 1) }
     ensures few { IfOk result (λ copied. copied.lost ≤ 32 * copied.segments) }
     ensures seen { OnOk result (head_len ≤ D.means.seen_len disk.new) }
     ensures kept { S.means.keeps source.old source.new }
@@ -111,8 +109,11 @@ fn copy_segments<S: Source, D: Disk>(
             return Ok(copied);
         }
     }
-    match count_rest(source, copied.bytes) {
-        Ok(bytes) => Ok(Copied { bytes, ..copied }),
+    match count_next(source) {
+        Ok(more) => Ok(Copied {
+            bytes: copied.bytes + more,
+            ..copied
+        }),
         Err(SourceFailed) => Err(ImportError::Source),
     }
 }
@@ -121,6 +122,7 @@ fn copy_segments<S: Source, D: Disk>(
 fn most_segments(asked: Option<u16>) -> u32
     requires { IfSome asked IsLength }
     ensures few { result ≤ most_words }
+    ensures limit { 32768 * result ≡ limit asked }
     ensures enough { (bytes n : ℕ) → IsLength n → IsDumpOf asked bytes n → 28 * n ≤ result }
 {
     match asked {
@@ -192,6 +194,7 @@ fn fill_image<S: Source, D: Disk>(
     ensures fills { (first : D) → Unfinished D.means first disk.old begun →
         Fills S.means D.means source.old source.new first disk.new
         mask.now segments_per_track result }
+    ensures gave { GaveFew S.means source.old source.new (limit segments_per_track + 1) }
     ensures kept { S.means.keeps source.old source.new }
     ensures later { S.means.faults source.old ≤ S.means.faults source.new }
     ensures stood { OnOk result (S.means.faults source.new ≡ S.means.faults source.old) }
@@ -225,6 +228,7 @@ fn write_image<S: Source, D: Disk>(
     requires asked { IfSome segments_per_track IsLength }
     ensures fills { Fills S.means D.means source.old source.new disk.old disk.new
         mask.now segments_per_track result }
+    ensures gave { GaveFew S.means source.old source.new (limit segments_per_track + 1) }
     ensures kept { S.means.keeps source.old source.new }
     ensures later { S.means.faults source.old ≤ S.means.faults source.new }
     ensures stood { OnOk result (S.means.faults source.new ≡ S.means.faults source.old) }
@@ -238,7 +242,7 @@ fn write_image<S: Source, D: Disk>(
 }
 
 /// Writes the image of a flat dump into an empty file, in one pass over the dump. Its length tells the segments per track,
-/// unless they are given: then a shorter one is taken, too. A sector is lost where the dump lacks a byte of it or the mask
+/// unless they are given: then a shorter one is taken, too. No more is read of it than the longest has, and one byte. A sector is lost where the dump lacks a byte of it or the mask
 /// its bit (a word of 32 sectors for each of 6,888 segments; without a map all are set). A stop leaves no image or the
 /// whole one. After an error the file is empty; where the clearing fails, too, it is no image, or the whole one where the
 /// write of its first byte or the sync behind it had failed.
@@ -253,6 +257,7 @@ pub fn import<S: Source, D: Disk>(
     requires asked { IfSome segments_per_track IsLength }
     ensures imports { Imports S.means D.means source.old source.new disk.old disk.new
         mask.now segments_per_track result }
+    ensures gave { GaveFew S.means source.old source.new (limit segments_per_track + 1) }
     ensures kept { S.means.keeps source.old source.new }
     ensures later { S.means.faults source.old ≤ S.means.faults source.new }
     ensures stood { OnOk result (S.means.faults source.new ≡ S.means.faults source.old) }

@@ -1,9 +1,11 @@
 -- A file that was looked at tells what it told.
-use Rattle.std.proofs.Common.{◌≡◌, Result, Ok, Err, refl, sym, ◌∙◌}
+use Rattle.std.proofs.Common.{◌≡◌, ◌≤◌, Result, Ok, Err, refl, sym, ap, ◌∙◌, arith}
 use Rattle.qic_base.specs.Disk.{Meaning, IsSettled, Look, Stores}
+use Rattle.qic_base.specs.Tape.{Rose}
 use Rattle.qic_base.proofs.Disks.{told-look}
 use Rattle.cart_image.specs.Run.{Looked}
 use Rattle.cart_image.proofs.FailedLooks.{failed-told}
+use Rattle.image_kind.specs.Opened.{SomeFailed}
 use Rattle.cart_image.proofs.Runs.{Looks-settled}
 
 -- ---- the file is as it was
@@ -30,3 +32,10 @@ pub twice-told : {D S T E F : Type 0} (m : Meaning D) (a b c : D) (r : Result S 
     Stores m a b Look r → Looked m b c s → m.told c ≡ m.told a
 twice-told m a b c r s settled first next =
     looked-told m b c s (tried-settled m a b r settled first) next ∙ tried-told m a b r settled first
+
+-- the last of the looks failed
+pub failed-count : {D : Type 0} (m : Meaning D) (first looked opened mid failed back : D) → m.faults looked ≡ m.faults first →
+    opened ≡ looked → m.faults opened ≤ m.faults mid → Rose (m.faults mid) (m.faults failed) → back ≡ failed →
+    SomeFailed (m.faults first) (m.faults back)
+failed-count m first looked opened mid failed back stood same later rose given =
+    omega (arith, stood, ap m.faults same, later, rose, ap m.faults given)

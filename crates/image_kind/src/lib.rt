@@ -6,4 +6,4 @@ mod free;
 mod opened;
 
 pub use free::is_free;
-pub use opened::open_tape;
+pub use opened::{NoTape, open_tape};

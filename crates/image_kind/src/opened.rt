@@ -1,40 +1,43 @@
 //! A tape over a file that holds nothing else.
 
-ghost use Rattle.std.specs.Prelude.{◌≡◌, ◌↔◌, true, false, Ok, None, IfSome, IsTrue};
+ghost use Rattle.std.specs.Prelude.{◌≡◌, true, IfErr, IfOk, IfSome};
 ghost use Rattle.qic_base.specs.Disk.{IsSettled};
-ghost use Rattle.cart_image.specs.Image.{cartridge_of};
 ghost use Rattle.cart_image.specs.ImageTape.{disk_of};
-ghost use Rattle.image_kind.specs.Free.{is_free as free_bytes};
-ghost use Rattle.image_kind.specs.Opened.{MayBeTaken};
+ghost use Rattle.image_kind.specs.Opened.{MayBeTaken, Refuses};
 
 use crate::free::is_free;
 use cart_image::ImageTape;
-use qic_base::{Disk, DiskFailed, Tape, TapeFailed, TapeInfo};
+use qic_base::{Disk, DiskFailed, Tape, TapeFailed};
 
-/// Whether a file holds something else, by the looks at it: it is neither free nor an image. One that failed tells nothing.
-fn is_other(free: Result<bool, DiskFailed>, info: Result<Option<TapeInfo>, TapeFailed>) -> bool
-    ensures { IsTrue result ↔ (free ≡ Ok false) × (info ≡ Ok None) }
-{
-    matches!((free, info), (Ok(false), Ok(None)))
+/// Why a file is not taken for an image.
+#[derive(Drop)]
+pub enum NoTape<D> {
+    /// It holds something else: it is neither an image nor free.
+    HoldsOther,
+    /// A look at it failed. The file is given back.
+    NotSeen(D),
 }
 
-/// A tape over a file; none exactly where looks at the file tell that it is no image, and may not be taken for one to be made.
-/// A look that fails refuses nothing, since the tape's own calls will answer it.
-pub fn open_tape<D: Disk + Drop>(mut disk: D) -> Option<ImageTape<D>>
-    requires { D.means.tells_stops disk ≡ true → IsSettled D.means disk }
-    ensures refused { result ≡ None → IfSome (D.means.told disk) (λ bytes.
-        (cartridge_of bytes ≡ None) × (free_bytes bytes ≡ false)) }
-    ensures taken { IfSome result (λ tape. IfSome (D.means.told disk) (λ bytes.
-        MayBeTaken bytes (D.means.faults disk) (D.means.faults (disk_of tape)))) }
+/// A tape over a file, which has this count of faults. It is taken where it is an image, or may be taken for one to be made,
+/// and each look at it succeeded. So a file of which nothing is known is not written.
+pub fn open_tape<D: Disk + Drop>(mut disk: D, faults: u64) -> Result<ImageTape<D>, NoTape<D>>
+    requires settled { D.means.tells_stops disk ≡ true → IsSettled D.means disk }
+    requires faults { D.means.faults disk ≡ faults }
+    ensures taken { IfOk result (λ tape. IfSome (D.means.told disk) MayBeTaken) }
+    ensures seen { IfOk result (λ tape. D.means.faults (disk_of tape) ≡ D.means.faults disk) }
+    ensures refused { IfErr result (Refuses D.means disk) }
 
     // It was only looked at.
-    ensures told { IfSome result (λ tape. D.means.told (disk_of tape) ≡ D.means.told disk) }
+    ensures told { IfOk result (λ tape. D.means.told (disk_of tape) ≡ D.means.told disk) }
 {
-    let free = is_free(&mut disk);
-    let mut tape = ImageTape::open(disk);
-    let info = tape.info();
-    if is_other(free, info) {
-        return None;
+    let free = match is_free(&mut disk) {
+        Ok(free) => free,
+        Err(DiskFailed) => return Err(NoTape::NotSeen(disk)),
+    };
+    let mut tape = ImageTape::open(disk, faults);
+    match tape.info() {
+        Ok(None) if !free => Err(NoTape::HoldsOther),
+        Ok(_) => Ok(tape),
+        Err(TapeFailed) => Err(NoTape::NotSeen(tape.into_disk())),
     }
-    Some(tape)
 }

@@ -6,7 +6,7 @@ ghost use Rattle.std.specs.Prelude.{IfOk};
 ghost use Rattle.qic_base.specs.Disk.{IsSettled};
 ghost use Rattle.qic_mem.specs.Disk.{disk_means};
 
-use crate::files::{CLOSED, LENGTH, NEW, OLD, OPEN, sees_three, write_cells, write_image};
+use crate::files::{CLOSED, LENGTH, NEW, OLD, OPEN, sees_three, tape_in, write_cells, write_image};
 use cart_image::ImageTape;
 use qic_base::{LostSet, Tape, read_sector, write_sector};
 use qic_mem::{DiskChange, DiskEntry, MemDisk};
@@ -115,7 +115,7 @@ fn image_of(alloc: Global, version: Version) -> Result<MemDisk, Fail>
 fn after(alloc: Global, version: Version, calls: &[Call]) -> Result<MemDisk, Fail>
     ensures { IfOk result (IsSettled disk_means) }
 {
-    let mut tape = ImageTape::open(image_of(alloc, version)?);
+    let mut tape = tape_in(image_of(alloc, version)?);
     make_all(&mut tape, calls)?;
     Ok(tape.into_disk())
 }
@@ -181,7 +181,7 @@ pub fn first_other(
 
 /// Whether a new cartridge does this to an empty disk, and nothing else.
 fn first_does(alloc: Global, rows: &[Row]) -> Result<bool, Fail> {
-    let mut tape = ImageTape::open(empty(alloc)?);
+    let mut tape = tape_in(empty(alloc)?);
     tape.renew(3)?;
     Ok(has_behind(&tape.into_disk(), 0, rows))
 }
@@ -264,7 +264,7 @@ fn sectors_in_cells_are_written_one_by_one_with_three_syncs(rt: HostRuntime) -> 
 /// Which of the sectors 0, 3 and 4 of segment 2 take no write, where sector 3 is a defect and sector 4 was never
 /// formatted.
 fn refused(alloc: Global) -> Result<u32, Fail> {
-    let mut tape = ImageTape::open(after(alloc, Version::Two, &[Call::Spoil(3)])?);
+    let mut tape = tape_in(after(alloc, Version::Two, &[Call::Spoil(3)])?);
     sees_three(&mut tape)?;
     let blank = tape.write_sectors(2, LostSet::from_mask(0b1_1001), &numbered())?;
     Ok(blank.mask())
@@ -279,7 +279,7 @@ fn a_sector_that_was_never_formatted_is_answered(rt: HostRuntime) -> Result<(), 
 /// What a read of the sectors 0, 1 and 3 of segment 2 finds, where sector 1 is lost and sector 3 was never formatted:
 /// the masks of both sets, and the first byte of each of the entries 0 to 3, which was 7.
 fn found(alloc: Global, version: Version) -> Result<(u32, u32, [u8; 4]), Fail> {
-    let mut tape = ImageTape::open(after(alloc, version, &[Call::Wear(1)])?);
+    let mut tape = tape_in(after(alloc, version, &[Call::Wear(1)])?);
     sees_three(&mut tape)?;
     let mut into = [[7; 1024]; 32];
     let read = tape.read_sectors(2, LostSet::from_mask(0b1011), &mut into)?;

@@ -6,8 +6,7 @@
 ghost use Rattle.std.specs.Prelude.{◌<◌, ◌^◌};
 
 use crate::calls::{Call, Row, Version, does, first_other};
-use crate::files::{CLOSED, LENGTH, NEW, OPEN, sees_three, write_cells};
-use cart_image::ImageTape;
+use crate::files::{CLOSED, LENGTH, NEW, OPEN, sees_three, tape_in, write_cells};
 use qic_base::{Disk, LostSet, Tape};
 use qic_mem::MemDisk;
 use std::alloc::Global;
@@ -160,7 +159,7 @@ fn a_new_cartridge_over_cells_is_five_steps(rt: HostRuntime) -> Result<(), Fail>
 fn is_read_by_one_call(alloc: Global) -> Result<bool, Fail> {
     let mut file = MemDisk::new(alloc, LENGTH, [12].to_vec(alloc)?)?;
     write_cells(&mut file)?;
-    let mut tape = ImageTape::open(file);
+    let mut tape = tape_in(file);
     sees_three(&mut tape)?;
     let read = tape.read_sectors(2, LostSet::from_mask(u32::MAX), &mut [[0; 1024]; 32])?;
     Ok(read.good == LostSet::from_mask(0b111) && tape.into_disk().len().is_err())

@@ -4,7 +4,7 @@
 
 ghost use Rattle.std.specs.Prelude.{◌<◌};
 
-use crate::files::{LENGTH, NEW, sees_three};
+use crate::files::{LENGTH, NEW, sees_three, tape_in};
 use crate::scratched::Scratched;
 use cart_image::ImageTape;
 use qic_base::{Disk, LostSet, SectorRead, SectorsRead, Tape, TapeFailed, read_sector};
@@ -14,7 +14,7 @@ use std::test::Fail;
 
 /// The file of that image.
 fn image(alloc: Global) -> Result<MemDisk, Fail> {
-    let mut tape = ImageTape::open(MemDisk::new(alloc, LENGTH, Vec::new(alloc))?);
+    let mut tape = tape_in(MemDisk::new(alloc, LENGTH, Vec::new(alloc))?);
     tape.renew(3)?;
     let _ = tape.spoil(2, 7)?;
     tape.format_segment(2)?;
@@ -43,7 +43,7 @@ fn answer<D: Disk>(
 /// The tape in the image. The bad bytes are among the 1,024 of the sector with this number.
 fn tape_of(alloc: Global, bad: u16) -> Result<ImageTape<Scratched>, Fail> {
     let first = 64 + 1027 * u64::from(bad) + 3 + 256;
-    Ok(ImageTape::open(Scratched::new(image(alloc)?, first, 512)))
+    Ok(ImageTape::open(Scratched::new(image(alloc)?, first, 512), 0))
 }
 
 /// The answers of the sectors of segment 2 and of the first of segment 3.

@@ -2,10 +2,10 @@
 //! chooses, counted from 0 over all calls of that disk. Segment 2 of an image of three segments per track has the
 //! sectors with the numbers 64 to 95.
 
-ghost use Rattle.std.specs.Prelude.{◌≡◌, ◌+◌, ◌^◌, ◌<◌, ◌≤◌, IfOk, OnOk, Some};
+ghost use Rattle.std.specs.Prelude.{◌≡◌, ◌+◌, ◌^◌, ◌<◌, ◌≤◌, IfOk, OnOk, Some, None, true};
 ghost use Rattle.qic_base.specs.Disk.{IsSettled};
 ghost use Rattle.qic_mem.specs.Disk.{disk_means};
-ghost use Rattle.cart_image.specs.ImageTape.{image_means};
+ghost use Rattle.cart_image.specs.ImageTape.{disk_of, image_means};
 
 use cart_image::ImageTape;
 use qic_base::{Disk, DiskFailed, Tape};
@@ -34,6 +34,16 @@ pub const CLOSED: u8 = 0xC1;
 
 /// A call that no test comes to.
 pub const NEVER: u16 = 60_000;
+
+/// The tape in a file.
+pub fn tape_in(file: MemDisk) -> ImageTape<MemDisk>
+    requires { disk_means.tells_stops file ≡ true → IsSettled disk_means file }
+    ensures disk { disk_of result ≡ file }
+    ensures size { image_means.size result ≡ None }
+{
+    let faults = file.faults();
+    ImageTape::open(file, faults)
+}
 
 /// A file of this length that begins so, as far as it goes, and is zero behind that. Three calls of the disk make it.
 pub fn file(alloc: Global, length: u64, head: &[u8; 14], fails: Vec<u64>) -> Result<MemDisk, Fail>

@@ -3,7 +3,7 @@
 ghost use Rattle.qic_base.specs.Disk.{IsSettled};
 ghost use Rattle.qic_mem.specs.Disk.{disk_means};
 
-use crate::files::{LONGER, NEVER, file};
+use crate::files::{LONGER, NEVER, file, tape_in};
 use cart_image::ImageTape;
 use qic_base::{Disk, Tape, TapeFailed, TapeInfo};
 use qic_mem::MemDisk;
@@ -14,7 +14,7 @@ use std::test::Fail;
 fn info_of(file: MemDisk) -> Result<Option<TapeInfo>, TapeFailed>
     requires { IsSettled disk_means file }
 {
-    ImageTape::open(file).info()
+    tape_in(file).info()
 }
 
 /// A cartridge of so many segments per track, with the write protect mark or not, and not referenced.
@@ -33,7 +33,7 @@ const FOUR: &[u8; 14] = b"QIC80IMG\x01\0\x04\0\x5A\0";
 /// file.
 fn four(alloc: Global, call: u16) -> Result<ImageTape<MemDisk>, Fail> {
     let fails = [3 + u64::from(call)].to_vec(alloc)?;
-    Ok(ImageTape::open(file(alloc, LONGER, FOUR, fails)?))
+    Ok(tape_in(file(alloc, LONGER, FOUR, fails)?))
 }
 
 /// What the file tells after a new cartridge of three segments per track was put in over that, which has to fail.

@@ -29,6 +29,7 @@ impl Model for Scratched {
     ghost view = { λ d. record {
       file = d.bad;
       resized = false;
+      changed = false;
       seen = d.seen;
       faults = d.faults;
       failed_changes = d.failed_changes;
@@ -42,6 +43,7 @@ impl Scratched {
         ensures { result ≡ record {
           file = bad;
           resized = false;
+          changed = false;
           seen = 0;
           faults = 0;
           failed_changes = 0;

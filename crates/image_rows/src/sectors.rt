@@ -7,7 +7,7 @@ ghost use Rattle.qic_base.specs.Disk.{IsSettled};
 ghost use Rattle.qic_mem.specs.Disk.{disk_means};
 ghost use Rattle.cart_image.specs.ImageTape.{image_means};
 
-use crate::files::{CLOSED, NEVER, NEW, OLD, OPEN, byte_at, image, sees_three};
+use crate::files::{CLOSED, NEVER, NEW, OLD, OPEN, byte_at, image, sees_three, tape_in};
 use cart_image::ImageTape;
 use qic_base::{
     Disk, DiskFailed, SectorRead, SectorWrite, Tape, TapeFailed, read_sector, write_sector,
@@ -22,7 +22,7 @@ pub fn held(alloc: Global, call: u16) -> Result<ImageTape<MemDisk>, Fail>
     ensures { IfOk result (λ tape. image_means.size tape ≡ Some 3) }
 {
     let fails = [9 + u64::from(call)].to_vec(alloc)?;
-    let mut tape = ImageTape::open(image(alloc, fails)?);
+    let mut tape = tape_in(image(alloc, fails)?);
     sees_three(&mut tape)?;
     Ok(tape)
 }
@@ -154,7 +154,7 @@ pub fn three_filled(tape: &mut ImageTape<MemDisk>) -> Result<[Option<u8>; 3], Fa
 /// The same of the file after a write that fails at this call, or is taken where no call fails.
 fn filled_after(alloc: Global, is_lost: bool, call: u16) -> Result<[Option<u8>; 3], Fail> {
     let file = after_write(tape(alloc, is_lost, call)?, call != NEVER)?;
-    three_filled(&mut ImageTape::open(file))
+    three_filled(&mut tape_in(file))
 }
 
 #[test]

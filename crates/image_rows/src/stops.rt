@@ -3,7 +3,7 @@
 
 ghost use Rattle.std.specs.Prelude.{◌<◌};
 
-use crate::files::{image, sees_three};
+use crate::files::{image, sees_three, tape_in};
 use crate::sectors::{after_write, held};
 use cart_image::ImageTape;
 use qic_base::{Sector, SectorRead, read_sector};
@@ -55,8 +55,8 @@ fn all_alike(one: &mut ImageTape<MemDisk>, other: &mut ImageTape<MemDisk>) -> Re
 
 /// The same of the image before the write and after it.
 fn kept(alloc: Global, call: u16) -> Result<u16, Fail> {
-    let mut before = ImageTape::open(image(alloc, Vec::new(alloc))?);
-    let mut after = ImageTape::open(after_write(held(alloc, call)?, true)?);
+    let mut before = tape_in(image(alloc, Vec::new(alloc))?);
+    let mut after = tape_in(after_write(held(alloc, call)?, true)?);
     all_alike(&mut before, &mut after)
 }
 

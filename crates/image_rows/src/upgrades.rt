@@ -4,7 +4,7 @@
 ghost use Rattle.std.specs.Prelude.{◌≡◌, IfOk, Some};
 ghost use Rattle.cart_image.specs.ImageTape.{image_means};
 
-use crate::files::{LENGTH, NEVER, OLD, byte_at, sees_three, write_image};
+use crate::files::{LENGTH, NEVER, OLD, byte_at, sees_three, tape_in, write_image};
 use crate::sectors::three_filled;
 use cart_image::ImageTape;
 use qic_base::{Disk, DiskFailed, Tape, TapeFailed};
@@ -23,7 +23,7 @@ fn old(alloc: Global, call: u16) -> Result<ImageTape<MemDisk>, Fail>
     let fails = [9 + u64::from(call)].to_vec(alloc)?;
     let mut file = MemDisk::new(alloc, UPGRADED, fails)?;
     write_image(&mut file)?;
-    let mut tape = ImageTape::open(file);
+    let mut tape = tape_in(file);
     sees_three(&mut tape)?;
     Ok(tape)
 }
@@ -32,7 +32,7 @@ fn old(alloc: Global, call: u16) -> Result<ImageTape<MemDisk>, Fail>
 fn filled_after(alloc: Global, call: u16) -> Result<[Option<u8>; 3], Fail> {
     let mut tape = old(alloc, call)?;
     match tape.upgrade() {
-        Err(TapeFailed) => three_filled(&mut ImageTape::open(tape.into_disk())),
+        Err(TapeFailed) => three_filled(&mut tape_in(tape.into_disk())),
         Ok(_) => Err(Fail::from("an upgrade")),
     }
 }
@@ -67,7 +67,7 @@ fn upgraded_twice(alloc: Global) -> Result<(u8, u8, bool), Fail> {
 fn filled_behind(alloc: Global) -> Result<[Option<u8>; 3], Fail> {
     let mut tape = old(alloc, NEVER)?;
     let _ = tape.upgrade()?;
-    three_filled(&mut ImageTape::open(tape.into_disk()))
+    three_filled(&mut tape_in(tape.into_disk()))
 }
 
 #[test]
@@ -79,7 +79,7 @@ fn an_upgrade_tells_the_version_before_and_is_made_once(rt: HostRuntime) -> Resu
 
 /// The file of a new cartridge of three segments per track, in which sector 0 of segment 4 was made a defect or not.
 fn new(alloc: Global, spoils: bool) -> Result<MemDisk, Fail> {
-    let mut tape = ImageTape::open(MemDisk::new(alloc, LENGTH, Vec::new(alloc))?);
+    let mut tape = tape_in(MemDisk::new(alloc, LENGTH, Vec::new(alloc))?);
     tape.renew(3)?;
     if spoils {
         let _ = tape.spoil(4, 0)?;

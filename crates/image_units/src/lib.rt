@@ -5,4 +5,4 @@ mod arguments;
 mod unit;
 
 pub use arguments::{Arguments, read_arguments};
-pub use unit::{ImageUnit, NO_IMAGE, close_unit, open_unit};
+pub use unit::{Closed, ImageUnit, NO_IMAGE, close_unit, open_unit};

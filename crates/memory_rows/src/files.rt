@@ -5,7 +5,9 @@ use std::fs;
 use std::fs::{File, OpenOptions};
 use std::os::unix::fs::FileExt;
 use std::test::Fail;
-use tape_files::{Failure, FileDisk, NoImage, StderrSink, StdinSource, StdoutSink, open_image};
+use tape_files::{
+    Failure, FileDisk, IfMissing, NoImage, StderrSink, StdinSource, StdoutSink, open_image,
+};
 
 type Shown = (
     [Result<(), DiskFailed>; 4],
@@ -30,7 +32,7 @@ fn use_disk(disk: &mut FileDisk) -> Result<Shown, DiskFailed> {
 #[test]
 fn a_file_is_a_disk(rt: HostRuntime) -> Result<(), Fail> {
     let path = "disk-of-a-test.img";
-    let mut disk = open_image(&rt, path)?;
+    let mut disk = open_image(&rt, path, IfMissing::Create)?;
     let seen = (use_disk(&mut disk), fs::remove_file(&rt, path).is_ok());
     let shown = ([Ok(()); 4], Ok(10), *b"a\0\0\0tape\0\0\x01");
     assert_eq!(rt; seen, (Ok(shown), true));
@@ -63,7 +65,7 @@ fn told_of_another(
 #[test]
 fn a_file_that_others_grow_and_cut_is_seen(rt: HostRuntime) -> Result<(), Fail> {
     let path = "file-of-a-test.img";
-    let mut disk = open_image(&rt, path)?;
+    let mut disk = open_image(&rt, path, IfMissing::Create)?;
     let other = OpenOptions::new().write(true).open(&rt, path)?;
     let seen = (
         told_of_another(&mut disk, &other),
@@ -81,7 +83,7 @@ fn a_file_that_others_grow_and_cut_is_seen(rt: HostRuntime) -> Result<(), Fail> 
 const ENOTDIR: u32 = 20;
 
 fn refusal(rt: &HostRuntime, path: &str) -> Option<NoImage> {
-    open_image(rt, path).err()
+    open_image(rt, path, IfMissing::Create).err()
 }
 
 /// How an open of a path that is an image of this run is refused, and of three that are none.
@@ -97,7 +99,7 @@ fn refusals(rt: &HostRuntime, path: &str) -> [Option<NoImage>; 4] {
 #[test]
 fn only_a_regular_file_that_nobody_has_is_an_image(rt: HostRuntime) -> Result<(), Fail> {
     let path = "image-of-a-test.img";
-    let first = open_image(&rt, path)?;
+    let first = open_image(&rt, path, IfMissing::Create)?;
     let refused = refusals(&rt, path);
     drop(first);
     let seen = (

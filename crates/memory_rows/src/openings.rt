@@ -7,7 +7,7 @@ use std::io::{ErrorKind, Write};
 use std::path::PathBuf;
 use std::test::Fail;
 use std::{fs, io};
-use tape_files::{Failure, NoImage, open_image, open_to_read};
+use tape_files::{Failure, IfMissing, NoImage, open_image, open_to_read};
 
 /// What was asked, a letter for each: `k` for the kind of what a path names, `l` for what a link names; and for an open
 /// `w` where it writes, `c` where it makes a new file, and `r` where it reads alone.
@@ -119,7 +119,7 @@ impl<'a> Files for Watched<'a> {
 type Case<'a> = (&'a str, Option<ErrorKind>, Option<(usize, &'a str)>);
 
 /// How the opening of an image is refused, and what it asks.
-fn opening(rt: &HostRuntime, case: Case<'_>) -> (Option<NoImage>, Asks) {
+fn opening(rt: &HostRuntime, case: Case<'_>, if_missing: IfMissing) -> (Option<NoImage>, Asks) {
     let (path, denied, other) = case;
     let files = Watched {
         rt,
@@ -128,7 +128,7 @@ fn opening(rt: &HostRuntime, case: Case<'_>) -> (Option<NoImage>, Asks) {
         denied,
         other,
     };
-    (open_image(&files, path).err(), files.asks.get())
+    (open_image(&files, path, if_missing).err(), files.asks.get())
 }
 
 /// The same of an opening to read alone.
@@ -149,13 +149,16 @@ const KEPT: &str = "kept-of-a-test.img";
 /// No file at first.
 const MADE: &str = "made-of-a-test.img";
 
+/// Linux's number for a path that names nothing.
+const ENOENT: u32 = 2;
+
 /// Linux's number for a file that is there already.
 const EEXIST: u32 = 17;
 
-/// A path whose kind is asked first, so a device is not even opened; the answers to an open to write; and what the
-/// open file is, and its name once it is locked. Between the name and the lock stand the kinds of the three streams.
-const TABLE: [(Case<'static>, Option<NoImage>, &[u8; 12]); 10] = [
-    ((KEPT, None, None), None, b"kwkkkk------"),
+/// A path whose kind is asked first, so a device is not even opened; the kinds of the three streams; the answers to an open to
+/// write; and what the open file is, and its name once it is locked.
+const TABLE: [(Case<'static>, Option<NoImage>, &[u8; 12]); 13] = [
+    ((KEPT, None, None), None, b"kkkkwk------"),
     (
         ("/dev/null", None, None),
         Some(NoImage::NotRegular),
@@ -164,45 +167,60 @@ const TABLE: [(Case<'static>, Option<NoImage>, &[u8; 12]); 10] = [
     (
         ("/dev/null", None, Some((0, KEPT))),
         Some(NoImage::NotRegular),
-        b"kw----------",
+        b"kkkkw-------",
+    ),
+    (
+        (KEPT, None, Some((1, MADE))),
+        Some(NoImage::StreamsUnseen(Failure::Number(ENOENT))),
+        b"kk----------",
+    ),
+    (
+        (KEPT, None, Some((2, MADE))),
+        Some(NoImage::StreamsUnseen(Failure::Number(ENOENT))),
+        b"kkk---------",
+    ),
+    (
+        (KEPT, None, Some((3, MADE))),
+        Some(NoImage::StreamsUnseen(Failure::Number(ENOENT))),
+        b"kkkk--------",
     ),
     (
         (KEPT, None, Some((5, "."))),
         Some(NoImage::Moved),
-        b"kwkkkk------",
+        b"kkkkwk------",
     ),
     (
         (KEPT, None, Some((5, MADE))),
         Some(NoImage::Moved),
-        b"kwkkkk------",
+        b"kkkkwk------",
     ),
     (
         (KEPT, Some(ErrorKind::PermissionDenied), None),
         None,
-        b"kwrkkkk-----",
+        b"kkkkwrk-----",
     ),
     (
         (KEPT, Some(ErrorKind::ReadOnlyFilesystem), None),
         None,
-        b"kwrkkkk-----",
+        b"kkkkwrk-----",
     ),
     (
         (KEPT, Some(ErrorKind::NotFound), None),
         Some(NoImage::NotMade(Failure::Number(EEXIST))),
-        b"kwlc--------",
+        b"kkkkwlc-----",
     ),
     (
         (KEPT, Some(ErrorKind::StorageFull), None),
         Some(NoImage::NotOpened(Failure::Untold)),
-        b"kw----------",
+        b"kkkkw-------",
     ),
-    ((MADE, None, None), None, b"kwlckkkklr--"),
+    ((MADE, None, None), None, b"kkkkwlcklr--"),
 ];
 
 /// The first row whose opening goes otherwise; None where there is none.
 fn first_other(rt: &HostRuntime) -> Option<usize> {
     for (i, (case, refused, asks)) in TABLE.iter().enumerate() {
-        if opening(rt, *case) != (*refused, **asks) {
+        if opening(rt, *case, IfMissing::Create) != (*refused, **asks) {
             return Some(i);
         }
     }
@@ -219,7 +237,18 @@ fn a_file_is_opened_by_its_kind_and_made_only_where_none_is(rt: HostRuntime) -> 
         fs::remove_file(&rt, KEPT).is_ok(),
         fs::remove_file(&rt, MADE).is_ok(),
     );
-    let reads = (None, *b"krkkkk------");
+    let reads = (None, *b"kkkkrk------");
     assert_eq!(rt; seen, (None, reads, true, true, true));
     Ok(())
+}
+
+#[test]
+fn a_file_that_is_missing_is_refused_where_that_is_asked(rt: HostRuntime) {
+    let refuse = |path| opening(&rt, (path, None, None), IfMissing::Refuse);
+    let seen = (
+        refuse("missing-of-a-test.img"),
+        fs::metadata(&rt, "missing-of-a-test.img").is_err(),
+    );
+    let want = (Some(NoImage::Missing), *b"kkkkw-------");
+    assert_eq!(rt; seen, (want, true));
 }

@@ -80,6 +80,13 @@ impl MemDisk {
         })
     }
 
+    /// How many of its calls failed, or the greatest u64 where there were more.
+    pub fn faults(&self) -> u64
+        ensures { result ≡ (disk_state self.now).plan.faults }
+    {
+        self.plan.faults()
+    }
+
     /// The entries of its record, the first of them first, and the bytes of its writes, one after another. It has none
     /// where it keeps no record.
     pub fn history(&self) -> (&[DiskEntry], &[u8])

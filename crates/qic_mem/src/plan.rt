@@ -33,6 +33,13 @@ impl CallPlan {
         }
     }
 
+    /// How many calls failed.
+    pub(crate) fn faults(&self) -> u64
+        ensures { result ≡ self.now.faults }
+    {
+        self.faults
+    }
+
     /// Counts a call. Answers whether it is to fail.
     pub(crate) fn begin(&mut self) -> bool
         ensures chosen { IsTrue result ↔ IsChosen self.old }

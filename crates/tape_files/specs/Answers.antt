@@ -1,20 +1,8 @@
--- The answers of the system that let an image be used (this project's own).
-use Rattle.std.specs.Prelude.{◌≡◌, ◌⊎◌, ◌≤◌, ℕ, Bool, IsTrue, Result, Ok, Err, Some, pos}
-use Rattle.std.specs.IoError.{error_kind, raw_os_error}
+-- The answers of the system that an opening goes by (this project's own).
+use Rattle.std.specs.Prelude.{◌≡◌, ◌⊎◌, ◌≤◌, ℕ, Bool, IsTrue, Result, Ok, Err}
+use Rattle.std.specs.IoError.{error_kind}
 use Rattle.std.specs.declared.io.Error.{Error as IoError}
 use Rattle.std.specs.declared.io.ErrorKind.TheVariants.{InvalidInput, NotFound, PermissionDenied, ReadOnlyFilesystem}
-use Rattle.std.specs.declared.fs.TryLockError.{TryLockError}
-use Rattle.std.specs.declared.fs.TryLockError.TheVariants.{Error, WouldBlock}
-
--- the system knows no locks for the file: EOPNOTSUPP, ENOSYS and ENOLCK of Linux
-abbrev pub KnowsNoLocks : IoError → Type 0
-KnowsNoLocks error = (raw_os_error error ≡ Some (pos 95)) ⊎ (raw_os_error error ≡ Some (pos 38)) ⊎ (raw_os_error error ≡ Some (pos 37))
-
--- no other run has the file, as far as the system knows locks for it
-abbrev pub IsUnlocked : Result (Unit {0}) TryLockError → Type 0
-IsUnlocked (Ok locked) = Unit {0}
-IsUnlocked (Err WouldBlock) = ⊥
-IsUnlocked (Err (Error error)) = KnowsNoLocks error
 
 -- Nothing of the file waits for the disk: a file system that is never written knows no sync (EINVAL of Linux).
 abbrev pub IsSynced : Bool → Result (Unit {0}) IoError → Type 0

@@ -16,11 +16,13 @@ abbrev pub sync_kind : Bool → SyncKind
 sync_kind true = Whole
 sync_kind false = DataAlone
 
--- a file as a disk: the file, whether its length may have changed since the last sync that succeeded, the length that
--- it was seen to have, how often a call of it failed, how often one that was no look, and why the last one that failed did
+-- a file as a disk: the file, whether its length may have changed since the last sync that succeeded, whether this run
+-- changed it or tried to, the length that it was seen to have, how often a call of it failed, how often one that was no
+-- look, and why the last one that failed did
 pub record FileState (F : Type 0) : Type 0 where
   pub file : F
   pub resized : Bool
+  pub changed : Bool
   pub seen : ℕ
   pub faults : ℕ
   pub failed_changes : ℕ

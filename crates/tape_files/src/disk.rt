@@ -2,7 +2,7 @@
 
 ghost use Rattle.std.specs.Prelude.{◌≡◌, ◌-◌, ◌≤◌, ◌↔◌, Ok, Some, true, false, length, min, IfErr, IfOk, OnOk, OnErr, IsOk, IsSome};
 ghost use Rattle.qic_base.specs.Tape.{Rose};
-ghost use Rattle.qic_base.specs.Disk.{Look, SetLen, Sync, Stores};
+ghost use Rattle.qic_base.specs.Disk.{Look, WriteAt, SetLen, Sync, Stores};
 ghost use Rattle.tape_files.specs.Answers.{GaveAll};
 ghost use Rattle.tape_files.specs.Edge.{Whole, sync_kind, file_means};
 ghost use Rattle.tape_files.specs.Failures.{failure_by, last_failure};
@@ -27,6 +27,8 @@ pub struct FileDisk<F: DiskFile + Drop = ImageFile> {
     failure: Option<Failure>,
     /// Whether the length may have changed since the last sync that succeeded.
     resized: bool,
+    /// Whether this run made a write or a new length of it, or tried to.
+    changed: bool,
 }
 
 impl<F: DiskFile + Drop> Model for FileDisk<F> {
@@ -38,6 +40,7 @@ impl<F: DiskFile + Drop> Model for FileDisk<F> {
     ghost view = { λ d. record {
       file = d.file;
       resized = d.resized;
+      changed = d.changed;
       seen = d.seen;
       faults = d.faults;
       failed_changes = d.failed_changes;
@@ -54,6 +57,7 @@ impl<F: DiskFile + Drop> FileDisk<F> {
     pub(crate) fn open(file: F) -> Result<FileDisk<F>, Failure>
         ensures synced { IfOk result (λ disk. F.synced Whole file disk.file) }
         ensures settled { IfOk result (λ disk. disk.resized ≡ false) }
+        ensures unchanged { IfOk result (λ disk. disk.changed ≡ false) }
         ensures seen { IfOk result (λ disk. disk.seen ≡ 0) }
         ensures faults { IfOk result (λ disk. disk.faults ≡ 0) }
         ensures changes { IfOk result (λ disk. disk.failed_changes ≡ 0) }
@@ -65,10 +69,41 @@ impl<F: DiskFile + Drop> FileDisk<F> {
             failed_changes: 0,
             failure: None,
             resized: true,
+            changed: false,
         };
         match disk.sync() {
             Ok(()) => Ok(disk),
             Err(DiskFailed) => Err(disk.failure.unwrap_or(Failure::Untold)),
+        }
+    }
+
+    /// How many of its calls failed, or the greatest u64 where there were more.
+    pub fn faults(&self) -> u64
+        ensures { result ≡ self.now.faults }
+    {
+        self.faults
+    }
+
+    /// Asks once more for the length of a file that this run changed. One that has fewer bytes than these got shorter under
+    /// the run: that is a failed call. A file that this run left alone isn't asked.
+    #[tactic(auto, using(crate::proofs::Edges::file_calls))]
+    pub fn require_len(&mut self, least: u64) -> Result<(), DiskFailed>
+        ensures left_alone { self.old.changed ≡ false → IsOk result × (self.new ≡ self.old) }
+        ensures whole { OnOk result (self.old.changed ≡ true → least ≤ self.new.seen) }
+        ensures did { Stores file_means self.old self.new Look result }
+        ensures kept { OnOk result ((self.new.failure ≡ self.old.failure) × (self.new.file ≡ self.old.file)) }
+        ensures told { OnErr result (IsSome self.new.failure) }
+    {
+        if !self.changed {
+            return Ok(());
+        }
+        let answer = self.file.len();
+        match self.counted(all_there(answer, least)) {
+            Ok(len) => {
+                self.seen = len;
+                Ok(())
+            }
+            Err(failed) => Err(failed),
         }
     }
 
@@ -81,6 +116,7 @@ impl<F: DiskFile + Drop> FileDisk<F> {
         ensures seen { self.new.seen ≡ self.old.seen }
         ensures file { self.new.file ≡ self.old.file }
         ensures resized { self.new.resized ≡ self.old.resized }
+        ensures changed { self.new.changed ≡ self.old.changed }
     {
         self.failure = Some(Failure::of(error));
         self.faults = self.faults.saturating_add(1);
@@ -90,6 +126,7 @@ impl<F: DiskFile + Drop> FileDisk<F> {
     fn counted<T: Drop>(&mut self, answer: io::Result<T>) -> Result<T, DiskFailed>
         ensures value { IfOk result (λ value. answer ≡ Ok value) }
         ensures failure { IfErr answer (λ error. self.new.failure ≡ Some (failure_by error)) }
+        ensures told { OnErr result (IsSome self.new.failure) }
         ensures succeeded { OnOk result (self.new ≡ self.old) }
         ensures failed { OnErr result (Rose self.old.faults self.new.faults) }
         ensures later { self.old.faults ≤ self.new.faults }
@@ -97,6 +134,7 @@ impl<F: DiskFile + Drop> FileDisk<F> {
         ensures seen { self.new.seen ≡ self.old.seen }
         ensures file { self.new.file ≡ self.old.file }
         ensures resized { self.new.resized ≡ self.old.resized }
+        ensures changed { self.new.changed ≡ self.old.changed }
     {
         match answer {
             Ok(value) => Ok(value),
@@ -118,6 +156,7 @@ impl<F: DiskFile + Drop> FileDisk<F> {
         ensures seen { self.new.seen ≡ self.old.seen }
         ensures file { self.new.file ≡ self.old.file }
         ensures resized { self.new.resized ≡ self.old.resized }
+        ensures changed { self.new.changed ≡ self.old.changed }
     {
         match self.counted(answer) {
             Ok(()) => Ok(()),
@@ -155,6 +194,17 @@ fn all_given(answer: io::Result<usize>, least: usize) -> io::Result<usize>
     }
 }
 
+/// The answer to a look at the length of a file that has so many bytes; one with fewer was cut.
+fn all_there(answer: io::Result<u64>, least: u64) -> io::Result<u64>
+    ensures there { IfOk result (λ n. (answer ≡ Ok n) × (least ≤ n)) }
+    ensures cut { IsOk result ↔ GaveAll least answer }
+{
+    match answer {
+        Ok(len) if len < least => Err(io::Error::from(ErrorKind::UnexpectedEof)),
+        answer => answer,
+    }
+}
+
 impl<F: DiskFile + Drop> Disk for FileDisk<F> {
     ghost use Rattle.tape_files.specs.EdgeLaws.{file_told_right, file_left_now};
 
@@ -188,7 +238,12 @@ impl<F: DiskFile + Drop> Disk for FileDisk<F> {
     }
 
     #[tactic(auto, using(crate::proofs::Edges::file_calls))]
-    fn write_at(&mut self, place: u64, from: &[u8]) -> Result<(), DiskFailed> {
+    fn write_at(&mut self, place: u64, from: &[u8]) -> Result<(), DiskFailed>
+        ensures did { Stores file_means self.old self.new (WriteAt place from.now) result }
+        ensures seen { self.new.seen ≡ self.old.seen }
+        ensures changed { self.new.changed ≡ true }
+    {
+        self.changed = true;
         let answer = self.file.write_all_at(from, place);
         self.changed(answer)
     }
@@ -199,8 +254,10 @@ impl<F: DiskFile + Drop> Disk for FileDisk<F> {
         ensures seen { OnOk result (self.new.seen ≡ length) }
         ensures failed { OnErr result (self.new.seen ≡ 0) }
         ensures resized { self.new.resized ≡ true }
+        ensures changed { self.new.changed ≡ true }
     {
         self.resized = true;
+        self.changed = true;
         let answer = self.file.set_len(length);
         match self.changed(answer) {
             Ok(()) => {
@@ -224,6 +281,7 @@ impl<F: DiskFile + Drop> Disk for FileDisk<F> {
             F.synced (sync_kind self.old.resized) self.old.file self.new.file) }
         ensures settled { OnOk result (self.new.resized ≡ false) }
         ensures unsettled { OnErr result (self.new.resized ≡ self.old.resized) }
+        ensures changed { self.new.changed ≡ self.old.changed }
         ensures succeeded { OnOk result (self.new.faults ≡ self.old.faults) }
     {
         let answer = if self.resized {

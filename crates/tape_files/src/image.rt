@@ -2,9 +2,8 @@
 
 ghost use Rattle.std.specs.Prelude.{◌≡◌, ◌↔◌, false, Err, Some, IfErr, IfOk, IsOk, IsSomeAnd, IsTrue};
 ghost use Rattle.std.specs.Fs.{IsFile, file_type};
-ghost use Rattle.tape_files.specs.Answers.{IsUnlocked, KnowsNoLocks};
 ghost use Rattle.tape_files.specs.Failures.{failure_by};
-ghost use Rattle.tape_files.specs.Refusals.{IsLockRefusal};
+ghost use Rattle.tape_files.specs.Refusals.{IsLockRefusal, IsUnseen};
 ghost use Rattle.tape_files.specs.Streams.{IsNoStream};
 
 use crate::FileDisk;
@@ -21,6 +20,8 @@ use std::{fs, io};
 pub enum NoImage {
     /// The system doesn't open it, or tells nothing of it.
     NotOpened(Failure),
+    /// There is none, and none is to be made.
+    Missing,
     /// There is none, and the system doesn't create it.
     NotMade(Failure),
     /// Once it was locked the path named another file, or none.
@@ -31,26 +32,30 @@ pub enum NoImage {
     IsStream,
     /// It is standard error, so what is written there would be written into it.
     IsErrorStream,
+    /// A standard stream can't be looked at, so it may be this file.
+    StreamsUnseen(Failure),
     /// Another run has it.
     Locked,
-    /// It can't be locked, for another cause than that the system knows no locks for it.
+    /// It can't be locked, so another run may have it.
     NotLocked(Failure),
     /// What it holds, or its entry in its folder, could not be put on the disk.
     NotSynced(Failure),
     /// There was no memory for the name of its folder.
     NoMemory,
+    /// A look at what it holds failed. What opens a file doesn't look at that.
+    NotSeen(Failure),
     /// It holds something else: it is no image, and none that is being made. What opens a file doesn't look at that.
     HoldsOther,
 }
 
-/// Linux's number for a lock that this kind of file does not have.
-const EOPNOTSUPP: i32 = 95;
-
-/// Linux's number for a call that the system does not have.
-const ENOSYS: i32 = 38;
-
-/// Linux's number for a lock that a network file system has nobody to keep.
-const ENOLCK: i32 = 37;
+/// What becomes of a path that names no file.
+#[derive(Clone, Copy, PartialEq, Eq)]
+pub enum IfMissing {
+    /// The file is made, empty.
+    Create,
+    /// It is refused.
+    Refuse,
+}
 
 /// The refusal of a file that the system doesn't open, or tells nothing of.
 pub(crate) fn not_opened(error: &io::Error) -> NoImage
@@ -66,17 +71,22 @@ fn not_synced(error: &io::Error) -> NoImage
     NoImage::NotSynced(Failure::of(error))
 }
 
-/// Opens the image at a path, which is created, empty, where there is none, and opened for reading alone where it may not
-/// be written. Its bytes, its length and the entry of an empty one are on the disk then. Until it is dropped no other run
-/// can write it, where the system knows locks for it.
-pub fn open_image<R: Files<File = File> + Alloc>(files: &R, path: &str) -> Result<FileDisk, NoImage>
+/// Opens the image at a path, and for reading alone where it may not be written. Where there is none it is created, empty,
+/// or refused, as is asked. Its bytes, its length and the entry of an empty one are on the disk then. Until it is dropped no
+/// other run can write it.
+pub fn open_image<R: Files<File = File> + Alloc>(
+    files: &R,
+    path: &str,
+    if_missing: IfMissing,
+) -> Result<FileDisk, NoImage>
     ensures settled { IfOk result (λ disk. disk.resized ≡ false) }
     ensures seen { IfOk result (λ disk. disk.seen ≡ 0) }
     ensures faults { IfOk result (λ disk. disk.faults ≡ 0) }
 {
     require_regular_path(files, path)?;
-    let file = open_file(files, path)?;
-    let metadata = require_image(files, path, &file)?;
+    let streams = stream_numbers(files)?;
+    let file = open_file(files, path, if_missing)?;
+    let metadata = require_image(files, path, &file, &streams)?;
     if metadata.len() == 0 {
         sync_folder(files, path, file.reads_only())?;
     }
@@ -84,15 +94,16 @@ pub fn open_image<R: Files<File = File> + Alloc>(files: &R, path: &str) -> Resul
 }
 
 /// Opens the file at a path to read it alone; it is not created. It is refused where an image would be, and until it is
-/// dropped no other run can write it as an image, where the system knows locks for it.
+/// dropped no other run can write it as an image.
 pub fn open_to_read<R: Files<File = File>>(files: &R, path: &str) -> Result<FileDisk, NoImage>
     ensures settled { IfOk result (λ disk. disk.resized ≡ false) }
     ensures seen { IfOk result (λ disk. disk.seen ≡ 0) }
     ensures faults { IfOk result (λ disk. disk.faults ≡ 0) }
 {
     require_regular_path(files, path)?;
+    let streams = stream_numbers(files)?;
     let image = open_alone(files, path)?;
-    require_image(files, path, &image)?;
+    require_image(files, path, &image, &streams)?;
     FileDisk::open(image).map_err(|failure| NoImage::NotSynced(failure))
 }
 
@@ -106,11 +117,16 @@ fn require_regular_path(files: &impl Files, path: &str) -> Result<(), NoImage> {
 
 /// Asked of the open file, since what a path names may change. Once it is locked the path is looked at again: a file that
 /// was put in its place, or took its name, would be written by the next run.
-fn require_image(files: &impl Files, path: &str, image: &ImageFile) -> Result<Metadata, NoImage> {
+fn require_image(
+    files: &impl Files,
+    path: &str,
+    image: &ImageFile,
+    streams: &StreamNumbers,
+) -> Result<Metadata, NoImage> {
     let file = image.file();
     let metadata = file.metadata().map_err(|error| not_opened(&error))?;
     require_regular(&metadata)?;
-    require_no_stream(number_of(&metadata), &stream_numbers(files))?;
+    require_no_stream(number_of(&metadata), streams)?;
     // A file that is opened for reading alone takes no other lock on some network file systems.
     require_unlocked(if image.reads_only() {
         file.try_lock_shared()
@@ -139,12 +155,12 @@ struct FileNumber {
     number: u64,
 }
 
-/// The numbers of the standard streams. A system that doesn't show one is no obstacle.
+/// The numbers of the standard streams.
 #[derive(Clone, Copy)]
 struct StreamNumbers {
-    input: Option<FileNumber>,
-    output: Option<FileNumber>,
-    errors: Option<FileNumber>,
+    input: FileNumber,
+    output: FileNumber,
+    errors: FileNumber,
 }
 
 fn number_of(metadata: &Metadata) -> FileNumber {
@@ -173,21 +189,33 @@ fn are_one(file: Option<FileNumber>, stream: Option<FileNumber>) -> bool
     file.is_some() && file == stream
 }
 
-fn stream_numbers(files: &impl Files) -> StreamNumbers {
-    StreamNumbers {
-        input: number_at(files, "/proc/self/fd/0"),
-        output: number_at(files, "/proc/self/fd/1"),
-        errors: number_at(files, "/proc/self/fd/2"),
+/// The number of a standard stream, by the answer to a look at it.
+fn seen_number(answer: io::Result<Metadata>) -> Result<FileNumber, NoImage>
+    ensures seen { IsOk result ↔ IsOk answer }
+    ensures refused { IfErr result (IsUnseen answer) }
+{
+    match answer {
+        Ok(metadata) => Ok(number_of(&metadata)),
+        Err(error) => Err(NoImage::StreamsUnseen(Failure::of(&error))),
     }
+}
+
+/// The numbers of the standard streams. A stream that can't be looked at may be any file, so each opening is refused.
+fn stream_numbers(files: &impl Files) -> Result<StreamNumbers, NoImage> {
+    Ok(StreamNumbers {
+        input: seen_number(fs::metadata(files, "/proc/self/fd/0"))?,
+        output: seen_number(fs::metadata(files, "/proc/self/fd/1"))?,
+        errors: seen_number(fs::metadata(files, "/proc/self/fd/2"))?,
+    })
 }
 
 fn require_no_stream(file: FileNumber, streams: &StreamNumbers) -> Result<(), NoImage>
     ensures apart { IsOk result ↔ IsNoStream file streams.now }
-    ensures errors { (result ≡ Err NoImage.IsErrorStream) ↔ (streams.now.errors ≡ Some file) }
+    ensures errors { (result ≡ Err NoImage.IsErrorStream) ↔ (streams.now.errors ≡ file) }
 {
-    if streams.errors == Some(file) {
+    if streams.errors == file {
         Err(NoImage::IsErrorStream)
-    } else if streams.input == Some(file) || streams.output == Some(file) {
+    } else if streams.input == file || streams.output == file {
         Err(NoImage::IsStream)
     } else {
         Ok(())
@@ -206,22 +234,15 @@ fn require_named(file: FileNumber, named: Option<FileNumber>) -> Result<(), NoIm
     }
 }
 
-/// Whether the system knows no locks for a file, by the failure of one.
-fn knows_no_locks(error: &io::Error) -> bool
-    ensures { IsTrue result ↔ KnowsNoLocks error.now }
-{
-    matches!(error.raw_os_error(), Some(EOPNOTSUPP | ENOSYS | ENOLCK))
-}
-
+/// A file that can't be locked is refused, whatever the cause: without a lock two runs would write over one another.
 fn require_unlocked(answer: Result<(), TryLockError>) -> Result<(), NoImage>
-    ensures unlocked { IsOk result ↔ IsUnlocked answer }
+    ensures unlocked { IsOk result ↔ IsOk answer }
     ensures locked { (result ≡ Err NoImage.Locked) ↔ (answer ≡ Err TryLockError.WouldBlock) }
     ensures refused { IfErr result (IsLockRefusal answer) }
 {
     match answer {
         Ok(()) => Ok(()),
         Err(TryLockError::WouldBlock) => Err(NoImage::Locked),
-        Err(TryLockError::Error(error)) if knows_no_locks(&error) => Ok(()),
         Err(TryLockError::Error(error)) => Err(NoImage::NotLocked(Failure::of(&error))),
     }
 }

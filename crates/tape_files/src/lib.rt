@@ -15,6 +15,6 @@ mod streams;
 pub use disk::FileDisk;
 pub use failure::Failure;
 pub use file::{DiskFile, ImageFile};
-pub use image::{NoImage, is_standard_error, open_image, open_to_read};
+pub use image::{IfMissing, NoImage, is_standard_error, open_image, open_to_read};
 pub use null::NullStreams;
 pub use streams::{StderrSink, StdinSource, StdoutSink};

@@ -1,15 +1,15 @@
 //! The opening of a file as an image: for writing where that may be, else for reading alone; and its creation.
 
-ghost use Rattle.std.specs.Prelude.{◌≡◌, ◌↔◌, not, true, false, IfErr, IfOk, IsOk};
+ghost use Rattle.std.specs.Prelude.{◌≡◌, ◌↔◌, not, true, false, Err, IfErr, IfOk, IsOk};
 ghost use Rattle.std.specs.Fs.{new_options, with_read, with_write, with_create_new, asks_write};
 ghost use Rattle.tape_files.specs.Answers.{ForbidsWriting, TellsNone};
 ghost use Rattle.tape_files.specs.Apart.{IsApart};
 
-use crate::NoImage;
 use crate::failure::Failure;
 use crate::file::ImageFile;
 use crate::image::not_opened;
 use crate::links::behind_links;
+use crate::{IfMissing, NoImage};
 use std::fs::{File, Files, OpenOptions};
 use std::io;
 use std::io::ErrorKind;
@@ -102,18 +102,33 @@ fn create<R: Files<File = File> + Alloc>(files: &R, path: &str) -> Result<ImageF
     }
 }
 
-/// Opens the file at a path, which is created where there is none, and opened for reading alone where it may not be
-/// written. An open that may create it is not tried before: in a folder that all may write, Linux can refuse that for
+/// Answers for a path that names no file: one is made, or it is refused.
+fn make_missing<R: Files<File = File> + Alloc>(
+    files: &R,
+    path: &str,
+    if_missing: IfMissing,
+) -> Result<ImageFile, NoImage>
+    ensures { if_missing ≡ IfMissing.Refuse → result ≡ Err NoImage.Missing }
+{
+    match if_missing {
+        IfMissing::Create => create(files, path),
+        IfMissing::Refuse => Err(NoImage::Missing),
+    }
+}
+
+/// Opens the file at a path, and for reading alone where it may not be written. Where there is none it is made or refused,
+/// as is asked. An open that may create it is not tried before: in a folder that all may write, Linux can refuse that for
 /// another user's file.
 pub fn open_file<R: Files<File = File> + Alloc>(
     files: &R,
     path: &str,
+    if_missing: IfMissing,
 ) -> Result<ImageFile, NoImage> {
     let how = to_write();
     match how.open(files, path) {
         Ok(file) => as_image(file, &how),
         Err(error) => match next_try(&error) {
-            NextTry::Create => create(files, path),
+            NextTry::Create => make_missing(files, path, if_missing),
             NextTry::ReadAlone => open_alone(files, path),
             NextTry::Nothing => Err(not_opened(&error)),
         },

@@ -1,5 +1,5 @@
 -- How a run of the program ends (this project's own).
-use Rattle.std.specs.Prelude.{◌≡◌, ◌≢◌, ◌⊎◌, ℕ, List, [], replicate, Option, Some, None, IfSome, Result, Ok, Err}
+use Rattle.std.specs.Prelude.{◌≡◌, ◌≢◌, ◌+◌, ◌⊎◌, ℕ, List, [], replicate, Option, Some, None, IfSome, Result, Ok, Err}
 use Rattle.qic_base.specs.Tape.{Rose}
 use Rattle.qic_base.specs.Disk as disks
 use Rattle.qic_base.specs.Disk.{Look}
@@ -10,7 +10,7 @@ use Rattle.cart_image.specs.Layout.{resize}
 use Rattle.cart_image.specs.Run as steps
 use Rattle.rescue_map.specs.Laws.{most_words}
 use Rattle.rescue_map.specs.Reads.{ReadFault, ReadWhole}
-use Rattle.flat_dump.specs.Import.{IsEmpty, DiskBroke, SourceBroke, WasImported, WasRefused}
+use Rattle.flat_dump.specs.Import.{GaveFew, IsEmpty, DiskBroke, SourceBroke, WasImported, WasRefused, limit}
 use Rattle.flat_dump.specs.declared.importing.Imported.{Imported}
 use Rattle.tape_import.specs.Texts.{imported_text}
 use Rattle.tape_import.specs.declared.status.ImportStatus.{ImportStatus}
@@ -110,13 +110,15 @@ Filled s d k mask asked dump ended old new from to other = ⊥
 
 -- ---- a run
 
--- The file was found empty, the mask was made, and the dump was imported by it.
+-- The file was found empty, the mask was made, and the dump was imported by it. No more was read of the dump than the longest
+-- has, and one byte.
 pub record Imports {M S D K : Type 0} (m : sources.Meaning M) (s : sources.Meaning S) (d : disks.Meaning D) (k : sinks.Meaning K)
     (asked : Option ℕ) (old new : Ends M S D K) (how : ImportStatus) : Type 0 where
   pub seen : D
   pub empty : FoundEmpty d old.image seen
   pub mask : List ℕ
   pub rescued : IsMaskBy m old.chart new.chart mask
+  pub few : GaveFew s old.dump new.dump (limit asked + 1)
   pub filled : Filled s d k mask asked old.dump new.dump seen new.image old.told new.told how
 
 -- The file was found empty, and nothing of it changed; nor was the dump read, or anything told.

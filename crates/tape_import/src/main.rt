@@ -8,6 +8,7 @@ ghost use Rattle.tape_import.specs.Texts.{status_code};
 mod run;
 mod status;
 
+use clap::Error;
 use file_hints::{HintLine, failure_line, refusal_line};
 use file_streams::FileSource;
 use program_words::{ImportWords, Told, read_command_line, read_import_words, tell_refusal};
@@ -16,8 +17,8 @@ use run::{run_import, unread};
 use status::{ImportStatus, write_status};
 use std::process::ExitCode;
 use tape_files::{
-    Failure, FileDisk, NoImage, NullStreams, StderrSink, StdinSource, StdoutSink, open_image,
-    open_to_read,
+    Failure, FileDisk, IfMissing, NoImage, NullStreams, StderrSink, StdinSource, StdoutSink,
+    open_image, open_to_read,
 };
 
 fn main(rt: HostRuntime) -> ExitCode {
@@ -33,12 +34,25 @@ fn main(rt: HostRuntime) -> ExitCode {
 fn run_over_words(rt: &HostRuntime, words: &Vec<String>) -> u8 {
     match read_import_words(rt.alloc(), words) {
         Ok(asked) => run_over_files(rt, asked),
-        Err(error) => match tell_refusal(rt, &error) {
+        Err(error) => match print_refusal(rt, words, &error) {
             Told::NoMemory => finish(rt, ImportStatus::NoMemory),
             Told::Mistake => ImportStatus::Usage.code(),
             Told::Page => ImportStatus::Done.code(),
+            Told::Unwritten => finish(rt, ImportStatus::SinkFault),
         },
     }
+}
+
+/// Prints why words are refused, or the page that they ask for.
+fn print_refusal(rt: &HostRuntime, words: &Vec<String>, error: &Error) -> Told {
+    tell_refusal(
+        rt.alloc(),
+        "tape_import 1.0\n",
+        words.as_slice(),
+        error,
+        &mut StdoutSink::new(rt.stdout()),
+        &mut StderrSink::new(rt.stderr()),
+    )
 }
 
 /// Prints that a file can't be opened, and why, and answers the exit status. Nothing is printed into the file.
@@ -57,7 +71,7 @@ fn refuse_file(rt: &HostRuntime, status: ImportStatus, cause: NoImage, path: &st
 fn run_over_files(rt: &HostRuntime, asked: ImportWords) -> u8
     requires { IfSome asked.segments_per_track IsLength }
 {
-    let image = match open_image(rt, asked.image) {
+    let image = match open_image(rt, asked.image, IfMissing::Create) {
         Ok(image) => image,
         Err(cause) => return refuse_file(rt, ImportStatus::NoImage, cause, asked.image),
     };
@@ -68,13 +82,14 @@ fn run_over_files(rt: &HostRuntime, asked: ImportWords) -> u8
         },
         None => None,
     };
-    run_over_disks(rt, asked.segments_per_track, image, map)
+    run_over_disks(rt, asked.segments_per_track, asked.image, image, map)
 }
 
 /// Imports the dump on standard input into an image, and answers the exit status.
 fn run_over_disks(
     rt: &HostRuntime,
     segments_per_track: Option<u16>,
+    path: &str,
     mut image: FileDisk,
     map: Option<FileDisk>,
 ) -> u8
@@ -93,16 +108,16 @@ fn run_over_disks(
         &mut image,
         &mut told,
     );
-    finish_over(rt, status, image.failure())
+    finish_over(rt, status, path, image.failure())
 }
 
 /// Prints a status, and answers its exit status. Where the image failed it is told why a call of it did.
-fn finish_over(rt: &HostRuntime, status: ImportStatus, failure: Option<Failure>) -> u8
+fn finish_over(rt: &HostRuntime, status: ImportStatus, path: &str, failure: Option<Failure>) -> u8
     ensures { result ≡ status_code status }
 {
     match (status, failure) {
         (ImportStatus::DiskFault, Some(failure)) => {
-            finish_with(rt, status, &failure_line("tape_import", failure))
+            finish_with(rt, status, &failure_line("tape_import", path, failure))
         }
         _ => finish(rt, status),
     }

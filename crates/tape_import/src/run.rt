@@ -1,9 +1,9 @@
 //! A run over opened files.
 
-ghost use Rattle.std.specs.Prelude.{◌≡◌, ◌≢◌, true, IfSome};
+ghost use Rattle.std.specs.Prelude.{◌≡◌, ◌≢◌, ◌+◌, true, IfSome};
 ghost use Rattle.qic_base.specs.Cartridge.{IsLength};
 ghost use Rattle.qic_base.specs.Disk.{IsSettled};
-ghost use Rattle.flat_dump.specs.Import.{IsEmpty};
+ghost use Rattle.flat_dump.specs.Import.{GaveFew, IsEmpty, limit};
 ghost use Rattle.tape_import.specs.Runs.{Filled, Found, Masks, Runs};
 
 use crate::status::{ImportStatus, write_imported};
@@ -70,8 +70,9 @@ fn import_by<S: Source, D: Disk, K: Sink>(
 ) -> ImportStatus
     requires empty { IsEmpty D.means disk.old }
     requires asked { IfSome segments_per_track IsLength }
-    ensures { Filled S.means D.means K.means mask.now segments_per_track dump.old dump.new
+    ensures filled { Filled S.means D.means K.means mask.now segments_per_track dump.old dump.new
         disk.old disk.new told.old told.new result }
+    ensures few { GaveFew S.means dump.old dump.new (limit segments_per_track + 1) }
 {
     match import(dump, mask, segments_per_track, disk) {
         Ok(imported) => match write_imported(imported, told) {

@@ -6,8 +6,8 @@ use Rattle.qic_base.proofs.Steps.{Rose-after}
 use Rattle.sector_fill.specs.Filling.{AreFilled}
 use Rattle.cart_image.specs.Layout.{cells_len}
 use Rattle.flat_dump.specs.Cells.{cells_of, joined}
-use Rattle.flat_dump.specs.Import.{counted}
-use Rattle.flat_dump.proofs.Copying.{CopiedSoFar, copied_ended, copied_more, copied_to_end, copied_to_limit, filled_ended, filled_whole}
+use Rattle.flat_dump.proofs.Copying.{CopiedSoFar, copied_ended, copied_more, copied_to_end}
+use Rattle.flat_dump.proofs.Copying.{copied_to_limit, few_more, filled_ended, filled_whole}
 use Rattle.flat_dump.proofs.Copying.{filled_within, length-segment, no_image_yet, none_copied}
 use Rattle.flat_dump.proofs.Laying.{length-laid}
 use Rattle.flat_dump.proofs.Passing.{append_fails, append_ran}
@@ -158,27 +158,26 @@ loop-segment-preserved g c =
           (c.loop-segment.copied.lost + c.in-Ok-write_segment.lost) n) all more;
     }
 
-pub returns-in-Ok-count_rest-clause-copies : goal.returns-in-Ok-count_rest-clause-copies
-returns-in-Ok-count_rest-clause-copies g c =
+pub returns-in-Ok-count_next-clause-copies : goal.returns-in-Ok-count_next-clause-copies
+returns-in-Ok-count_next-clause-copies g c =
     let m = g.D.Disk.means in
     let s = g.S.Source.means in
     let before = c.loop-segment.invariant in
     let at : c.loop-segment.segment ≡ c.args.most = omega arith in
-    let counts = c.in-Ok-count_rest.ensures.counts in
     let bytes : c.loop-segment.copied.bytes ≡ 32768 * c.args.most = before.bytes ∙ ap (λ (n : ℕ). 32768 * n) at in
     let so_far = subst (λ (n : ℕ). CopiedSoFar s m c.args.source.now c.loop-segment.source c.args.disk.now c.loop-segment.disk
     c.args.mask.now n c.loop-segment.copied.lost (32768 * n)) at before.so_far in
     copied_to_limit s m c.args.source.now c.loop-segment.source c.args.disk.now c.loop-segment.disk c.args.mask.now c.args.most
-    c.loop-segment.copied.lost c.in-Ok-count_rest.bytes _ so_far
-    (counts.0, counts.1, counts.2 ∙ ap (λ (b : ℕ). counted (b + length counts.0)) bytes) (before.segments ∙ at) refl refl
+    c.loop-segment.copied.lost c.in-Ok-count_next.more _ so_far c.in-Ok-count_next.ensures.counts (before.segments ∙ at) refl
+    (ap (λ (b : ℕ). b + c.in-Ok-count_next.more) bytes)
 
-pub returns-in-Err-count_rest-clause-copies : goal.returns-in-Err-count_rest-clause-copies
-returns-in-Err-count_rest-clause-copies g c =
+pub returns-in-Err-count_next-clause-copies : goal.returns-in-Err-count_next-clause-copies
+returns-in-Err-count_next-clause-copies g c =
     let before = c.loop-segment.invariant in
     let so_far = before.so_far in
-    let cause = c.in-Err-count_rest.ensures.cause in (
+    let cause = c.in-Err-count_next.ensures.cause in (
       Rose-after (g.S.Source.means.faults c.args.source.now) (g.S.Source.means.faults c.loop-segment.source)
-          (g.S.Source.means.faults c.count_rest.new.source) before.stood cause.failed,
+          (g.S.Source.means.faults c.count_next.new.source) before.stood cause.failed,
       λ first u. no_image_yet g.D.Disk.means first c.loop-segment.disk so_far.file (so_far.goes first u),
     )
 
@@ -199,8 +198,8 @@ returns-in-Ok-eq0-clause-stood g c = let before = c.loop-segment.invariant in c.
 pub returns-then-len-lt-SEGMENT_LEN-clause-stood : goal.returns-then-len-lt-SEGMENT_LEN-clause-stood
 returns-then-len-lt-SEGMENT_LEN-clause-stood g c = let before = c.loop-segment.invariant in c.in-Ok.ensures.cause.stood ∙ before.stood
 
-pub returns-in-Ok-count_rest-clause-stood : goal.returns-in-Ok-count_rest-clause-stood
-returns-in-Ok-count_rest-clause-stood g c = let before = c.loop-segment.invariant in c.in-Ok-count_rest.ensures.cause.stood ∙ before.stood
+pub returns-in-Ok-count_next-clause-stood : goal.returns-in-Ok-count_next-clause-stood
+returns-in-Ok-count_next-clause-stood g c = let before = c.loop-segment.invariant in c.in-Ok-count_next.ensures.cause.stood ∙ before.stood
 
 pub returns-in-Err-clause-counts : goal.returns-in-Err-clause-counts
 returns-in-Err-clause-counts g c =
@@ -209,9 +208,51 @@ returns-in-Err-clause-counts g c =
     Rose-after (g.S.Source.means.faults c.args.source.now) (g.S.Source.means.faults c.loop-segment.source)
     (g.S.Source.means.faults c.fill_sectors.new.source) before.stood cause.failed
 
-pub returns-in-Err-count_rest-clause-counts : goal.returns-in-Err-count_rest-clause-counts
-returns-in-Err-count_rest-clause-counts g c =
+pub returns-in-Err-count_next-clause-counts : goal.returns-in-Err-count_next-clause-counts
+returns-in-Err-count_next-clause-counts g c =
     let before = c.loop-segment.invariant in
-    let cause = c.in-Err-count_rest.ensures.cause in
+    let cause = c.in-Err-count_next.ensures.cause in
     Rose-after (g.S.Source.means.faults c.args.source.now) (g.S.Source.means.faults c.loop-segment.source)
-    (g.S.Source.means.faults c.count_rest.new.source) before.stood cause.failed
+    (g.S.Source.means.faults c.count_next.new.source) before.stood cause.failed
+
+pub returns-in-Err-clause-gave : goal.returns-in-Err-clause-gave
+returns-in-Err-clause-gave g c =
+    let before = c.loop-segment.invariant in
+    let filled = c.in-Err.ensures.filled in
+    few_more g.S.Source.means g.D.Disk.means c.args.source.now c.loop-segment.source c.fill_sectors.new.source c.args.disk.now
+    c.loop-segment.disk c.args.mask.now c.loop-segment.segment c.loop-segment.copied.lost (32768 * c.args.most + 1) 32768 filled.0
+    before.so_far filled.2 (omega arith) filled.3
+
+pub returns-in-Err-write_segment-clause-gave : goal.returns-in-Err-write_segment-clause-gave
+returns-in-Err-write_segment-clause-gave g c =
+    let before = c.loop-segment.invariant in
+    let filled = c.in-Ok.ensures.filled in
+    let gave = filled.2 in
+    few_more g.S.Source.means g.D.Disk.means c.args.source.now c.loop-segment.source c.fill_sectors.new.source c.args.disk.now
+    c.loop-segment.disk c.args.mask.now c.loop-segment.segment c.loop-segment.copied.lost (32768 * c.args.most + 1) 32768 filled.0
+    before.so_far gave.within (omega arith) gave.gave
+
+pub returns-then-len-lt-SEGMENT_LEN-clause-gave : goal.returns-then-len-lt-SEGMENT_LEN-clause-gave
+returns-then-len-lt-SEGMENT_LEN-clause-gave g c =
+    let before = c.loop-segment.invariant in
+    let filled = c.in-Ok.ensures.filled in
+    let gave = filled.2 in
+    few_more g.S.Source.means g.D.Disk.means c.args.source.now c.loop-segment.source c.fill_sectors.new.source c.args.disk.now
+    c.loop-segment.disk c.args.mask.now c.loop-segment.segment c.loop-segment.copied.lost (32768 * c.args.most + 1) 32768 filled.0
+    before.so_far gave.within (omega arith) gave.gave
+
+pub returns-in-Ok-count_next-clause-gave : goal.returns-in-Ok-count_next-clause-gave
+returns-in-Ok-count_next-clause-gave g c =
+    let before = c.loop-segment.invariant in
+    let gave = c.in-Ok-count_next.ensures.gave in
+    few_more g.S.Source.means g.D.Disk.means c.args.source.now c.loop-segment.source c.count_next.new.source c.args.disk.now
+    c.loop-segment.disk c.args.mask.now c.loop-segment.segment c.loop-segment.copied.lost (32768 * c.args.most + 1) 1 gave.0 before.so_far
+    gave.1 (omega arith) gave.2
+
+pub returns-in-Err-count_next-clause-gave : goal.returns-in-Err-count_next-clause-gave
+returns-in-Err-count_next-clause-gave g c =
+    let before = c.loop-segment.invariant in
+    let gave = c.in-Err-count_next.ensures.gave in
+    few_more g.S.Source.means g.D.Disk.means c.args.source.now c.loop-segment.source c.count_next.new.source c.args.disk.now
+    c.loop-segment.disk c.args.mask.now c.loop-segment.segment c.loop-segment.copied.lost (32768 * c.args.most + 1) 1 gave.0 before.so_far
+    gave.1 (omega arith) gave.2

@@ -1,7 +1,7 @@
 use Rattle.std.proofs.Common.{◌≡◌, ℕ, ◌+◌, ◌-◌, ◌*◌, length, ◌∙◌, subst, arith}
 use Rattle.cart_image.specs.Layout.{cells_len}
 use Rattle.flat_dump.specs.Import.{IsDumpOf}
-use Rattle.flat_dump.proofs.Imports.{copies_failed, failed_is, fits_counted, fits_within, imported_is, refused_is}
+use Rattle.flat_dump.proofs.Imports.{copies_failed, failed_is, fits_counted, fits_within, imported_is, read_by, refused_is}
 use Rattle.flat_dump.proofs.Laying.{length-laid}
 use Rattle.flat_dump.proofs.importing.fill_image.Goals as goal
 
@@ -16,7 +16,8 @@ finish-requires-clause-order g c =
     let was = c.in-Ok.ensures.copies in
     let is = c.in-Some.ensures in
     let fits = fits_counted c.args.segments_per_track (length was.dump) c.in-Some.n is.0
-    (subst (λ (k : ℕ). IsDumpOf c.args.segments_per_track k c.in-Some.n) was.bytes is.1) in
+    (subst (λ (k : ℕ). IsDumpOf c.args.segments_per_track k c.in-Some.n) (read_by c.args.segments_per_track c.most_segments-most.result
+    (length was.dump) c.in-Ok.copied.bytes c.most_segments-most.ensures.limit was.bytes) is.1) in
     let within = fits_within c.args.segments_per_track (length was.dump) c.in-Some.n fits in
     let needed = was.needed in
     omega arith
@@ -26,7 +27,8 @@ imported_as-requires-clause-order g c =
     let was = c.in-Ok.ensures.copies in
     let is = c.in-Some.ensures in
     let fits = fits_counted c.args.segments_per_track (length was.dump) c.in-Some.n is.0
-    (subst (λ (k : ℕ). IsDumpOf c.args.segments_per_track k c.in-Some.n) was.bytes is.1) in
+    (subst (λ (k : ℕ). IsDumpOf c.args.segments_per_track k c.in-Some.n) (read_by c.args.segments_per_track c.most_segments-most.result
+    (length was.dump) c.in-Ok.copied.bytes c.most_segments-most.ensures.limit was.bytes) is.1) in
     let within = fits_within c.args.segments_per_track (length was.dump) c.in-Some.n fits in
     let needed = was.needed in
     omega arith
@@ -37,7 +39,8 @@ returns-in-Ok-finish-clause-fills g c = λ first begins.
     let is = c.in-Some.ensures in
     let n : ℕ = c.in-Some.n in
     let fits = fits_counted c.args.segments_per_track (length was.dump) n is.0
-    (subst (λ (k : ℕ). IsDumpOf c.args.segments_per_track k n) was.bytes is.1) in
+    (subst (λ (k : ℕ). IsDumpOf c.args.segments_per_track k n) (read_by c.args.segments_per_track c.most_segments-most.result
+    (length was.dump) c.in-Ok.copied.bytes c.most_segments-most.ensures.limit was.bytes) is.1) in
     let within = fits_within c.args.segments_per_track (length was.dump) n fits in
     let more : ℕ = 28 * n - c.in-Ok.copied.segments in
     let order : c.in-Ok.copied.segments + more ≡ 28 * n = omega (arith, was.needed) in
@@ -56,7 +59,8 @@ returns-in-Err-finish-clause-fills g c = λ first begins.
     let is = c.in-Some.ensures in
     let n : ℕ = c.in-Some.n in
     let fits = fits_counted c.args.segments_per_track (length was.dump) n is.0
-    (subst (λ (k : ℕ). IsDumpOf c.args.segments_per_track k n) was.bytes is.1) in
+    (subst (λ (k : ℕ). IsDumpOf c.args.segments_per_track k n) (read_by c.args.segments_per_track c.most_segments-most.result
+    (length was.dump) c.in-Ok.copied.bytes c.most_segments-most.ensures.limit was.bytes) is.1) in
     let within = fits_within c.args.segments_per_track (length was.dump) n fits in
     let more : ℕ = 28 * n - c.in-Ok.copied.segments in
     let order : c.in-Ok.copied.segments + more ≡ 28 * n = omega (arith, was.needed) in
@@ -71,4 +75,4 @@ pub returns-in-None-clause-fills : goal.returns-in-None-clause-fills
 returns-in-None-clause-fills g c = λ first begins.
     refused_is g.S.Source.means g.D.Disk.means c.args.source.now c.copy_segments.new.source first c.args.disk.now c.copy_segments.new.disk
     c.args.mask.now c.most_segments-most.result c.args.segments_per_track
-    c.in-Ok.copied c.in-Ok.ensures.copies c.in-None.ensures begins
+    c.in-Ok.copied c.in-Ok.ensures.copies c.most_segments-most.ensures.limit c.in-None.ensures begins

@@ -1,8 +1,8 @@
 use Rattle.tape_import.proofs.Ends.{emptied-by}
 use Rattle.tape_import.proofs.run.import_by.Goals as goal
 
-pub returns-in-Err : goal.returns-in-Err
-returns-in-Err g c = record {
+pub returns-in-Err-clause-filled : goal.returns-in-Err-clause-filled
+returns-in-Err-clause-filled g c = record {
   imported = c.in-Ok.imported;
   made = c.import.new.disk;
   was = c.in-Ok.ensures.imports;
