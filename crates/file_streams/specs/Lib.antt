@@ -1,3 +1,4 @@
 pub mod FileSink
 pub mod FileSource
 pub mod SinkLaws
+pub mod SourceLaws

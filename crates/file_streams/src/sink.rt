@@ -2,9 +2,9 @@
 
 ghost use Rattle.std.specs.Prelude.{◌≡◌, ◌==◌, ◌≤◌, ◌+◌, length, IfOk, IfSome, OnOk, OnErr};
 ghost use Rattle.std.specs.Option.{option_and_then};
-ghost use Rattle.qic_base.specs.Disk.{Failed, Look};
+ghost use Rattle.qic_base.specs.Disk.{Look, Stores, Sync};
 ghost use Rattle.qic_base.specs.Tape.{Rose};
-ghost use Rattle.file_streams.specs.FileSink.{IsEnd, longer_by};
+ghost use Rattle.file_streams.specs.FileSink.{IsEnd, PieceBroke, PieceTook, longer_by};
 
 use qic_base::{Disk, DiskFailed, Sink, SinkFailed};
 
@@ -20,7 +20,7 @@ pub struct FileSink<D: Disk + Drop> {
 fn holds_nothing<D: Disk>(disk: &mut D) -> Result<bool, DiskFailed>
     ensures empty { IfOk result (λ empty. IfSome (D.means.told disk.old) (λ bytes. empty ≡ (length bytes == 0))) }
     ensures told { OnOk result (D.means.told disk.new ≡ D.means.told disk.old) }
-    ensures failed { OnErr result (Failed D.means disk.old disk.new Look) }
+    ensures did { Stores D.means disk.old disk.new Look result }
 {
     Ok(disk.len()? == 0)
 }
@@ -30,6 +30,8 @@ fn append<D: Disk>(disk: &mut D, at: u64, from: &[u8]) -> Result<u64, DiskFailed
     ensures end { IfOk result (λ end. end ≡ at + length from.now) }
     ensures longer { OnOk result (IsEnd at (D.means.told disk.old) →
         D.means.told disk.new ≡ longer_by from.now (D.means.told disk.old)) }
+    ensures took { OnOk result (PieceTook D.means disk.old disk.new at from.now) }
+    ensures broke { OnErr result (PieceBroke D.means disk.old disk.new at) }
 {
     let Some(end) = at.checked_add(from.len() as u64) else {
         return Err(DiskFailed);
@@ -40,7 +42,7 @@ fn append<D: Disk>(disk: &mut D, at: u64, from: &[u8]) -> Result<u64, DiskFailed
 }
 
 impl<D: Disk + Drop> FileSink<D> {
-    ghost use Rattle.file_streams.specs.FileSink.{HoldsNothing, IsFresh, IsOnDisk, LookBroke, SyncBroke, Took, bytes_of, file_of, sink_means};
+    ghost use Rattle.file_streams.specs.FileSink.{Called, HoldsNothing, BothFiles, IsFresh, IsOnDisk, LookBroke, SyncBroke, Took, bytes_of, file_of, place_of, sink_means};
 
     /// A file of which nothing was asked yet, or none.
     pub fn new(disk: Option<D>) -> FileSink<D>
@@ -59,6 +61,8 @@ impl<D: Disk + Drop> FileSink<D> {
         ensures rose { Rose ((sink_means D.means).faults self.old) ((sink_means D.means).faults self.new) }
         ensures later { (sink_means D.means).faults self.old ≤ (sink_means D.means).faults self.new }
         ensures some { 1 ≤ (sink_means D.means).faults self.new }
+        ensures file { file_of self.new ≡ file_of self.old }
+        ensures place { place_of self.new ≡ place_of self.old }
     {
         self.faults = self.faults.saturating_add(1);
     }
@@ -67,6 +71,9 @@ impl<D: Disk + Drop> FileSink<D> {
     fn append(&mut self, from: &[u8]) -> Result<(), DiskFailed>
         ensures took { OnOk result (Took D.means self.old from.now self.new) }
         ensures stood { (sink_means D.means).faults self.new ≡ (sink_means D.means).faults self.old }
+        ensures place { OnErr result (place_of self.new ≡ place_of self.old) }
+        ensures broke { OnErr result (BothFiles (λ a b. PieceBroke D.means a b (place_of self.old))
+            (file_of self.old) (file_of self.new)) }
     {
         if let Some(disk) = &mut self.disk {
             self.at = append(disk, self.at, from)?;
@@ -80,6 +87,7 @@ impl<D: Disk + Drop> FileSink<D> {
         ensures empty { IfOk result (λ empty. HoldsNothing D.means empty (file_of self.old)) }
         ensures kept { OnOk result (bytes_of D.means self.new ≡ bytes_of D.means self.old) }
         ensures fresh { OnOk result (IsFresh self.new) }
+        ensures looked { OnOk result (Called D.means Look self.old self.new) }
         ensures failed { OnErr result (LookBroke D.means self.old self.new) }
     {
         match &mut self.disk {
@@ -93,6 +101,9 @@ impl<D: Disk + Drop> FileSink<D> {
         ensures kept { OnOk result (bytes_of D.means self.new ≡ bytes_of D.means self.old) }
         ensures on_disk { OnOk result (IsOnDisk D.means self.new) }
         ensures whole { OnOk result ((sink_means D.means).faults self.old ≡ 0) }
+        ensures synced { OnOk result (Called D.means Sync self.old self.new) }
+        ensures count { (sink_means D.means).faults self.new ≡ (sink_means D.means).faults self.old }
+        ensures place { place_of self.new ≡ place_of self.old }
         ensures failed { OnErr result (SyncBroke D.means self.old self.new) }
     {
         if self.faults > 0 {

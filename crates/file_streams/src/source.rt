@@ -18,7 +18,7 @@ pub struct FileSource<D: Disk + Drop> {
 }
 
 impl<D: Disk + Drop> FileSource<D> {
-    ghost use Rattle.file_streams.specs.FileSource.{source_means};
+    ghost use Rattle.file_streams.specs.FileSource.{disk_of, source_means};
 
     /// A file of which nothing was read yet.
     pub fn new(disk: D) -> FileSource<D>
@@ -35,7 +35,7 @@ impl<D: Disk + Drop> FileSource<D> {
     /// Counts a read that failed.
     fn fail(&mut self) -> SourceFailed
         ensures left { source_means.left self.new ≡ source_means.left self.old }
-        ensures kept { source_means.keeps self.old self.new }
+        ensures disk { disk_of self.new ≡ disk_of self.old }
         ensures rose { Rose (source_means.faults self.old) (source_means.faults self.new) }
         ensures later { source_means.faults self.old ≤ source_means.faults self.new }
     {
@@ -45,25 +45,27 @@ impl<D: Disk + Drop> FileSource<D> {
 }
 
 impl<D: Disk + Drop> Source for FileSource<D> {
-    ghost use Rattle.std.specs.Prelude.{refl};
-    ghost use Rattle.std.proofs.Common.{◌∙◌};
     ghost use Rattle.file_streams.specs.FileSource.{source_means};
+    ghost use Rattle.file_streams.specs.SourceLaws.{keeps-itself, keeps-on};
 
     ghost means = { source_means };
 
-    ghost keeps_itself = { λ s. refl };
+    ghost keeps_itself = { keeps-itself };
 
-    ghost keeps_on = { λ a b c first next. next ∙ first };
+    ghost keeps_on = { keeps-on };
 
     fn read(&mut self, into: &mut [u8]) -> Result<usize, SourceFailed> {
         match self.disk.read_at(self.at, into) {
-            // No file is so long that this overflows.
             Ok(count) => match self.at.checked_add(count as u64) {
                 Some(at) => {
                     self.at = at;
                     Ok(count)
                 }
-                None => Err(self.fail()),
+                // No file is so long: one that tells its bytes can't tell how many they are.
+                None => match self.disk.len() {
+                    Ok(_) => Ok(count),
+                    Err(DiskFailed) => Err(self.fail()),
+                },
             },
             Err(DiskFailed) => Err(self.fail()),
         }

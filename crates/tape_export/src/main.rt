@@ -10,6 +10,7 @@ mod run;
 mod status;
 
 use cart_image::ImageTape;
+use clap::Error;
 use file_hints::{HintLine, failure_line, refusal_line};
 use file_streams::FileSink;
 use program_words::{ExportWords, Told, read_command_line, read_export_words, tell_refusal};
@@ -18,7 +19,9 @@ use run::{export_files, unread};
 use status::ExportStatus;
 use std::alloc::Global;
 use std::process::ExitCode;
-use tape_files::{Failure, FileDisk, NoImage, NullStreams, StderrSink, StdoutSink, open_image};
+use tape_files::{
+    Failure, FileDisk, IfMissing, NoImage, NullStreams, StderrSink, StdoutSink, open_image,
+};
 
 fn main(rt: HostRuntime) -> ExitCode {
     // Held to the end, so that no file that is opened becomes a standard stream.
@@ -33,10 +36,11 @@ fn main(rt: HostRuntime) -> ExitCode {
 fn run_over_words(rt: &HostRuntime, words: &Vec<String>) -> u8 {
     match read_export_words(rt.alloc(), words) {
         Ok(asked) => run_over_files(rt, asked),
-        Err(error) => match tell_refusal(rt, &error) {
+        Err(error) => match print_refusal(rt, words, &error) {
             Told::NoMemory => finish(rt, ExportStatus::NoMemory),
             Told::Mistake => ExportStatus::Usage.code(),
             Told::Page => ExportStatus::Done.code(),
+            Told::Unwritten => finish(rt, ExportStatus::SinkFault),
         },
     }
 }
@@ -46,6 +50,29 @@ fn make_mask(alloc: Global) -> Result<Vec<u32>, NoMemory>
     ensures { IfOk result (λ mask. most_words ≤ vec_capacity mask) }
 {
     Ok(Vec::with_capacity(alloc, MOST_SEGMENTS)?)
+}
+
+/// How a run ends whose image can't be opened: where there is none, there is no cartridge.
+fn unopened(cause: NoImage) -> ExportStatus
+    ensures missing { cause ≡ NoImage.Missing → result ≡ ExportStatus.NoCartridge }
+    ensures other { cause ≢ NoImage.Missing → result ≡ ExportStatus.NoImage }
+{
+    match cause {
+        NoImage::Missing => ExportStatus::NoCartridge,
+        _ => ExportStatus::NoImage,
+    }
+}
+
+/// Prints why words are refused, or the page that they ask for.
+fn print_refusal(rt: &HostRuntime, words: &Vec<String>, error: &Error) -> Told {
+    tell_refusal(
+        rt.alloc(),
+        "tape_export 1.0\n",
+        words.as_slice(),
+        error,
+        &mut StdoutSink::new(rt.stdout()),
+        &mut StderrSink::new(rt.stderr()),
+    )
 }
 
 /// Prints that a file can't be opened, and why, and answers the exit status. Nothing is printed into the file.
@@ -65,43 +92,45 @@ fn run_over_files(rt: &HostRuntime, asked: ExportWords) -> u8 {
     let Ok(mut mask) = make_mask(rt.alloc()) else {
         return finish(rt, ExportStatus::NoMemory);
     };
-    let image = match open_image(rt, asked.image) {
+    let image = match open_image(rt, asked.image, IfMissing::Refuse) {
         Ok(image) => image,
-        Err(cause) => return refuse_file(rt, ExportStatus::NoImage, cause, asked.image),
+        Err(cause) => return refuse_file(rt, unopened(cause), cause, asked.image),
     };
     let map = match asked.map {
-        Some(path) => match open_image(rt, path) {
+        Some(path) => match open_image(rt, path, IfMissing::Create) {
             Ok(map) => Some(map),
             Err(cause) => return refuse_file(rt, ExportStatus::NoMap, cause, path),
         },
         None => None,
     };
-    run_over_disks(rt, &mut mask, image, map)
+    run_over_disks(rt, &mut mask, asked.image, image, map)
 }
 
 /// Exports the image, and answers the exit status.
 fn run_over_disks(
     rt: &HostRuntime,
     mask: &mut Vec<u32>,
+    path: &str,
     image: FileDisk,
     map: Option<FileDisk>,
 ) -> u8
     requires { most_words ≤ vec_capacity mask.old }
 {
-    let mut tape = ImageTape::open(image);
+    let faults = image.faults();
+    let mut tape = ImageTape::open(image, faults);
     let mut dump = StdoutSink::new(rt.stdout());
     let mut chart = FileSink::new(map);
     let status = export_files(mask, &mut tape, &mut dump, &mut chart);
-    finish_over(rt, status, tape.into_disk().failure())
+    finish_over(rt, status, path, tape.into_disk().failure())
 }
 
 /// Prints a status, and answers its exit status. Where the image failed it is told why a call of it did.
-fn finish_over(rt: &HostRuntime, status: ExportStatus, failure: Option<Failure>) -> u8
+fn finish_over(rt: &HostRuntime, status: ExportStatus, path: &str, failure: Option<Failure>) -> u8
     ensures { result ≡ status_code status }
 {
     match (status, failure) {
         (ExportStatus::TapeFault, Some(failure)) => {
-            finish_with(rt, status, &failure_line("tape_export", failure))
+            finish_with(rt, status, &failure_line("tape_export", path, failure))
         }
         _ => finish(rt, status),
     }

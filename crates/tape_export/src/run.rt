@@ -3,7 +3,8 @@
 ghost use Rattle.std.specs.Prelude.{◌≡◌, ◌≢◌, ◌≤◌, ◌⊎◌, [], Err, IfErr, IfSome, OnOk};
 ghost use Rattle.std.specs.Vec.{vec_capacity};
 ghost use Rattle.rescue_map.specs.Laws.{most_words};
-ghost use Rattle.file_streams.specs.FileSink.{IsFresh, LookBroke, bytes_of};
+ghost use Rattle.file_streams.specs.FileSink.{Called, IsFresh, LookBroke, bytes_of};
+ghost use Rattle.qic_base.specs.Disk.{Look};
 ghost use Rattle.tape_export.specs.Files.{Exports};
 ghost use Rattle.tape_export.specs.Runs.{Runs};
 
@@ -30,7 +31,10 @@ pub fn unread(kind: ErrorKind) -> ExportStatus
 fn require_empty<D: Disk + Drop>(chart: &mut FileSink<D>) -> Result<(), ExportStatus>
     requires { IsFresh chart.old }
     ensures empty { OnOk result (IfSome (bytes_of D.means chart.new) (λ bytes. bytes ≡ [])) }
+    ensures begun { OnOk result (IfSome (bytes_of D.means chart.old) (λ bytes. bytes ≡ [])) }
     ensures fresh { OnOk result (IsFresh chart.new) }
+    ensures looked { OnOk result (Called D.means Look chart.old chart.new) }
+    ensures kept { result ≡ Err ExportStatus.NotEmpty → Called D.means Look chart.old chart.new }
     ensures not_empty { result ≡ Err ExportStatus.NotEmpty →
         IfSome (bytes_of D.means chart.old) (λ bytes. bytes ≢ []) }
     ensures failed { result ≡ Err ExportStatus.SinkFault →
