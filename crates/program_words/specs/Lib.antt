@@ -1,4 +1,5 @@
 pub mod DumpOptions
 pub mod DumpWords
 pub mod GapOption
+pub mod Refusals
 pub mod TraceWords

@@ -25,7 +25,7 @@ fn segments_option<'a>(alloc: Global) -> Arg<'a>
     let plain = Arg::new(alloc, "segments")
         .long("segments")
         .value_name("N")
-        .help("The segments per track, 3 to 246; a shorter dump is taken then")
+        .help("Segments per track, 3 to 246, if the dump ends early")
         .action(ArgAction::Set);
     let option = plain.value_parser(lengths);
     option
@@ -48,7 +48,7 @@ pub fn export_command<'a>(alloc: Global) -> Result<Command<'a>, AllocError>
 {
     let map = map_option(
         alloc,
-        "A file for the map of the sectors that hold bytes, missing or empty",
+        "Write a ddrescue mapfile of the readable sectors to this new file",
     );
     let with_map = Command::new(alloc, "tape_export").arg(map)?;
     with_map.arg(image_argument(alloc, "The image file of the cartridge"))
@@ -58,8 +58,11 @@ pub fn export_command<'a>(alloc: Global) -> Result<Command<'a>, AllocError>
 pub fn import_command<'a>(alloc: Global) -> Result<Command<'a>, AllocError>
     ensures { IfOk result IsImportCommand }
 {
-    let map = map_option(alloc, "The map of the bytes that were rescued");
+    let map = map_option(
+        alloc,
+        "ddrescue mapfile of the dump; without it all bytes count as read",
+    );
     let with_map = Command::new(alloc, "tape_import").arg(map)?;
     let with_segments = with_map.arg(segments_option(alloc))?;
-    with_segments.arg(image_argument(alloc, "A file for the image, missing or empty"))
+    with_segments.arg(image_argument(alloc, "The image to create; must not exist or be empty"))
 }

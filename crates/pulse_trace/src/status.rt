@@ -1,7 +1,10 @@
 //! How a run ends.
 
-ghost use Rattle.std.specs.Prelude.{◌≡◌};
+ghost use Rattle.std.specs.Prelude.{◌≡◌, ◌≤◌, ◌++◌, length};
 ghost use Rattle.pulse_trace.specs.Runs.{status_code};
+ghost use Rattle.pulse_trace.specs.Texts.{plain_text, status_text};
+
+use message_text::HintLine;
 
 /// How a run ended.
 #[derive(Clone, Copy)]
@@ -34,4 +37,33 @@ impl TraceStatus {
             TraceStatus::NoMemory => 19,
         }
     }
+}
+
+/// The text of a status without a number; none for one with a number, and for a run that did all.
+fn plain_text(status: TraceStatus) -> &'static [u8]
+    ensures text { result.now ≡ plain_text status }
+    ensures short { length result.now ≤ 60 }
+{
+    match status {
+        TraceStatus::Usage => b"usage: pulse_trace [--gap MICROSECONDS] (1 to 1000000)\n",
+        TraceStatus::SourceFault => b"pulse_trace: standard input can't be read\n",
+        TraceStatus::SinkFault => b"pulse_trace: standard output can't be written\n",
+        TraceStatus::NoMemory => b"pulse_trace: out of memory\n",
+        TraceStatus::Done | TraceStatus::TraceFault { .. } => b"",
+    }
+}
+
+/// The line of a status; none for a run that did all.
+pub fn status_line(status: TraceStatus) -> HintLine
+    ensures { result ≡ status_text status }
+{
+    let mut text = HintLine::new();
+    if let TraceStatus::TraceFault { line, .. } = status {
+        text.push(b"pulse_trace: line ");
+        text.push_number(u64::from(line));
+        text.push(b" is not valid\n");
+    } else {
+        text.push(plain_text(status));
+    }
+    text
 }

@@ -1,22 +1,25 @@
 //! The program: a run over a cartridge in an image file, with the standard streams.
 #![tactic(auto)]
 
-ghost use Rattle.std.specs.Prelude.{◌≡◌, ◌≢◌};
+ghost use Rattle.std.specs.Prelude.{◌≡◌, ◌≢◌, ◌↔◌, true};
 ghost use Rattle.tape_cmd.specs.Lines.{status_code};
+ghost use Rattle.word_hints.specs.Creating.{Creates};
 
 mod refusal;
 
-use image_units::{Arguments, ImageUnit, NO_IMAGE, close_unit, open_unit, read_arguments};
+use command_spec::Words;
+use image_units::{Arguments, Closed, ImageUnit, NO_IMAGE, close_unit, open_unit, read_arguments};
 use qic_base::write_text;
-use refusal::{write_failure, write_refusal};
+use refusal::{write_refusal, write_why};
+use status_hints::restores;
 use std::io::ErrorKind;
 use std::process::ExitCode;
 use tape_cmd::{Status, exit_status, run, write_status};
 use tape_files::{
-    Failure, NoImage, NullStreams, StderrSink, StdinSource, StdoutSink, is_standard_error,
+    IfMissing, NoImage, NullStreams, StderrSink, StdinSource, StdoutSink, is_standard_error,
 };
 use tape_script::read_words;
-use word_hints::{Asks, hint_of, what_is_asked, write_help, write_hint, write_version};
+use word_hints::{Asks, creates, hint_of, what_is_asked, write_help, write_hint, write_version};
 
 /// The program has one image.
 const IMAGES: usize = 1;
@@ -37,18 +40,24 @@ fn answer(rt: &HostRuntime, arguments: &Arguments) -> u8 {
     }
     let mut errors = StderrSink::new(rt.stderr());
     let [image] = arguments.images.as_slice() else {
-        return refuse_words(arguments.command.as_slice(), &mut errors);
+        return refuse_words(None, arguments.command.as_slice(), &mut errors);
     };
-    if read_words(&arguments.command).is_err() {
+    match read_words(&arguments.command) {
+        Ok(words) => run_command(rt, image, &words, &arguments.command, &mut errors),
         // Nothing is printed into the image.
-        if is_standard_error(rt, image) {
-            return exit_status(&Status::Usage);
-        }
-        return refuse_words(arguments.command.as_slice(), &mut errors);
+        Err(_) if is_standard_error(rt, image) => exit_status(&Status::Usage),
+        Err(_) => refuse_words(Some(image), arguments.command.as_slice(), &mut errors),
     }
-    match open_unit(rt, image) {
-        Ok(unit) => run_over_image(rt, &arguments.command, unit, &mut errors),
-        Err(cause) => refuse(cause, image, &mut errors),
+}
+
+/// Whether a command makes an image that is missing.
+fn if_missing(words: &Words) -> IfMissing
+    ensures { (result ≡ IfMissing.Create) ↔ Creates words.now }
+{
+    if creates(words) {
+        IfMissing::Create
+    } else {
+        IfMissing::Refuse
     }
 }
 
@@ -66,17 +75,33 @@ fn help(rt: &HostRuntime, asks: Asks) -> u8 {
     finish(status, &mut StderrSink::new(rt.stderr()))
 }
 
-/// Carries out the command on an image that was opened, and answers the exit status.
+/// Carries out a command on the image at a path, and answers the exit status.
+fn run_command(
+    rt: &HostRuntime,
+    image: &str,
+    words: &Words,
+    command: &Vec<String>,
+    errors: &mut StderrSink,
+) -> u8 {
+    match open_unit(rt, image, if_missing(words)) {
+        Ok(unit) => {
+            let (status, closed) = run_over_image(rt, command, unit);
+            finish_over(status, closed, image, restores(words), errors)
+        }
+        Err(cause) => refuse(cause, image, errors),
+    }
+}
+
+/// Carries out the command on an image that was opened, and closes it.
 fn run_over_image(
     rt: &HostRuntime,
     command: &Vec<String>,
     mut unit: ImageUnit,
-    errors: &mut StderrSink,
-) -> u8 {
+) -> (Status, Closed) {
     let mut source = StdinSource::new(rt.stdin());
     let mut sink = StdoutSink::new(rt.stdout());
     let status = run(rt.alloc(), command, &mut unit, &mut source, &mut sink);
-    finish_over(status, close_unit(unit), errors)
+    (status, close_unit(unit))
 }
 
 /// Answers the exit status where the words can't be had: there is no memory for them, which prints nothing, or one is no
@@ -90,29 +115,38 @@ fn refuse_texts(kind: ErrorKind, errors: &mut StderrSink) -> u8
         _ => {
             let code = finish(Status::Usage, errors);
             // The exit status tells it, too, where standard error can't.
-            let _printed = write_text(b"tape: a word is no UTF-8 text\n", errors);
+            let _printed = write_text(
+                b"tape: an argument is not valid UTF-8, which a path must be too\n",
+                errors,
+            );
             code
         }
     }
 }
 
 /// Prints that the words are those of no command, and why, and answers the exit status.
-fn refuse_words(command: &[String], errors: &mut StderrSink) -> u8
+fn refuse_words(image: Option<&str>, command: &[String], errors: &mut StderrSink) -> u8
     ensures { result ≡ status_code Status.Usage }
 {
     let code = finish(Status::Usage, errors);
     // The exit status tells it, too, where standard error can't.
-    let _printed = write_hint(hint_of(command), errors);
+    let _printed = write_hint(hint_of(image, command), errors);
     code
 }
 
 /// Prints that the image can't be opened, and why, and answers the exit status. Nothing is printed into the image.
 fn refuse(cause: NoImage, image: &str, errors: &mut StderrSink) -> u8
     ensures memory { cause ≡ NoImage.NoMemory → result ≡ status_code Status.NoMemory }
-    ensures refused { cause ≢ NoImage.NoMemory → result ≡ NO_IMAGE }
+    ensures missing { cause ≡ NoImage.Missing → result ≡ status_code Status.NoCartridge }
+    ensures refused { cause ≢ NoImage.NoMemory → cause ≢ NoImage.Missing → result ≡ NO_IMAGE }
 {
     match cause {
         NoImage::NoMemory => return finish(Status::NoMemory, errors),
+        NoImage::Missing => {
+            let code = finish(Status::NoCartridge, errors);
+            let _printed = write_refusal(cause, image, errors);
+            return code;
+        }
         NoImage::IsErrorStream => {}
         _ => {
             // The exit status tells it, too, where standard error can't.
@@ -124,17 +158,34 @@ fn refuse(cause: NoImage, image: &str, errors: &mut StderrSink) -> u8
     NO_IMAGE
 }
 
-/// Prints a status, and answers its exit status. Where the tape failed it is told why a call of the image did.
-fn finish_over(status: Status, failure: Option<Failure>, errors: &mut StderrSink) -> u8
-    ensures { result ≡ status_code status }
+/// The status of a run over an image: it failed, if the image got shorter under it, or that can't be told.
+fn status_over(status: Status, closed: Closed) -> Status
+    ensures cut { closed.is_cut ≡ true → result ≡ Status.TapeFault }
+    ensures whole { closed.is_cut ≢ true → result ≡ status }
 {
-    let tape_failed = status == Status::TapeFault;
+    if closed.is_cut {
+        Status::TapeFault
+    } else {
+        status
+    }
+}
+
+/// Prints the status of a run over an image, and why it came or what to do, and answers its exit status.
+fn finish_over(
+    status: Status,
+    closed: Closed,
+    image: &str,
+    restores: bool,
+    errors: &mut StderrSink,
+) -> u8
+    ensures cut { closed.is_cut ≡ true → result ≡ status_code Status.TapeFault }
+    ensures whole { closed.is_cut ≢ true → result ≡ status_code status }
+{
+    let status = status_over(status, closed);
     let code = finish(status, errors);
-    if let Some(failure) = failure {
-        if tape_failed {
-            // The exit status tells it, too, where standard error can't.
-            let _printed = write_failure(failure, errors);
-        }
+    if code != 0 {
+        // The exit status tells it, too, where standard error can't.
+        let _printed = write_why(image, status, restores, closed.failure, errors);
     }
     code
 }

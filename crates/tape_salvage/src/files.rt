@@ -9,7 +9,7 @@ use dump_spec::{OpenedFile, Status};
 use file_streams::{FileSink, FileSource};
 use salvage_words::SalvageWords;
 use std::fs::{File, Files};
-use tape_files::{FileDisk, NoImage, open_image, open_to_read};
+use tape_files::{FileDisk, IfMissing, NoImage, open_image, open_to_read};
 
 /// The files of a run, opened: those that are read, and that of the sure map, where one is asked for.
 #[derive(Drop)]
@@ -79,7 +79,7 @@ fn open_sure<'a, R: Files<File = File> + Alloc>(
     path: Option<&'a str>,
 ) -> Result<Option<FileDisk>, Unopened<'a>> {
     match path {
-        Some(path) => match open_image(files, path) {
+        Some(path) => match open_image(files, path, IfMissing::Create) {
             Ok(disk) => Ok(Some(disk)),
             Err(cause) => Err(Unopened {
                 file: OpenedFile::Sure,

@@ -9,6 +9,7 @@ mod ended;
 mod files;
 mod run;
 
+use clap::Error;
 use dump_answers::{Ending, SalvageRoom};
 use dump_opening::DumpFiles;
 use dump_spec::Status;
@@ -37,13 +38,26 @@ fn main(rt: HostRuntime) -> ExitCode {
 fn run_over_words(rt: &HostRuntime, words: &Vec<String>) -> u8 {
     match read_salvage_words(rt.alloc(), words) {
         Ok(asked) => run_over_files(rt, asked),
-        Err(Refusal::Words(error)) => match tell_refusal(rt, &error) {
+        Err(Refusal::Words(error)) => match print_refusal(rt, words, &error) {
             Told::NoMemory => finish(rt, make_ending(Status::NoMemory)),
             Told::Mistake => exit_status(&Status::Usage),
             Told::Page => exit_status(&Status::Done),
+            Told::Unwritten => finish(rt, make_ending(Status::OutputFailed)),
         },
         Err(Refusal::NoCommand) => finish(rt, make_ending(Status::Usage)),
     }
+}
+
+/// Prints why words are refused, or the page that they ask for.
+fn print_refusal(rt: &HostRuntime, words: &Vec<String>, error: &Error) -> Told {
+    tell_refusal(
+        rt.alloc(),
+        "tape_salvage 1.0\n",
+        words.as_slice(),
+        error,
+        &mut StdoutSink::new(rt.stdout()),
+        &mut StderrSink::new(rt.stderr()),
+    )
 }
 
 /// Prints that a file can't be opened, and why, and answers the exit status. Nothing is printed into the file.
@@ -62,12 +76,25 @@ fn refuse_file(rt: &HostRuntime, refused: Unopened) -> u8
     }
 }
 
-/// Why a call of the dump or of the header failed, where one did.
-fn failure_in(files: &DumpFiles<FileDisk, FileSource<FileDisk>>) -> Option<Failure> {
-    match (files.dump.failure(), &files.header) {
-        (Some(failure), _) => Some(failure),
-        (None, Some(header)) => header.failure(),
-        (None, None) => None,
+/// A file of which a call failed, and why it did.
+#[derive(Clone, Copy)]
+struct FileFailure<'a> {
+    path: &'a str,
+    failure: Failure,
+}
+
+/// Which of the dump and the header failed, and why, where one did.
+fn failure_in<'a>(
+    files: &DumpFiles<FileDisk, FileSource<FileDisk>>,
+    asked: SalvageWords<'a>,
+) -> Option<FileFailure<'a>> {
+    let (path, failure) = match (files.dump.failure(), &files.header) {
+        (None, Some(header)) => (asked.header.unwrap_or(asked.dump), header.failure()),
+        (failure, _) => (asked.dump, failure),
+    };
+    match failure {
+        Some(failure) => Some(FileFailure { path, failure }),
+        None => None,
     }
 }
 
@@ -80,19 +107,20 @@ fn run_over_files(rt: &HostRuntime, asked: SalvageWords) -> u8 {
         Ok(OpenFiles { mut read, mut sure }) => {
             let mut output = StdoutSink::new(rt.stdout());
             let ending = salvage_files(room, &mut read, &asked.asked, &mut output, &mut sure);
-            finish_over(rt, ending, failure_in(&read))
+            finish_over(rt, ending, failure_in(&read, asked))
         }
         Err(refused) => refuse_file(rt, refused),
     }
 }
 
 /// Prints the lines of an ending, and answers the exit status. Where a read of a file failed it is told why.
-fn finish_over(rt: &HostRuntime, ending: Ending, failure: Option<Failure>) -> u8
+fn finish_over(rt: &HostRuntime, ending: Ending, failed: Option<FileFailure<'_>>) -> u8
     ensures { result ≡ status_code ending.status }
 {
-    match (ending.status, failure) {
-        (Status::InputFailed, Some(failure)) => {
-            finish_with(rt, ending, Some(&failure_line("tape_salvage", failure)))
+    match (ending.status, failed) {
+        (Status::InputFailed, Some(failed)) => {
+            let hint = failure_line("tape_salvage", failed.path, failed.failure);
+            finish_with(rt, ending, Some(&hint))
         }
         _ => finish(rt, ending),
     }

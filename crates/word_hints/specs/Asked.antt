@@ -1,13 +1,14 @@
--- What a single word in the place of an image asks for (this project's own).
+-- What the words of a call ask for besides commands (this project's own).
 use Rattle.std.specs.Prelude.{◌≡◌, ◌⊎◌, ℕ, List, [], ◌∷◌, codes}
+use Rattle.message_text.specs.Asked.{IsHelpWord, IsVersionWord}
 
-abbrev pub IsHelpWord : List ℕ → Type 0
-IsHelpWord word = (word ≡ codes "--help") ⊎ (word ≡ codes "-h")
+-- help as the only word, or the word `help` after an image
+abbrev pub IsHelpCall : (images command : List (List ℕ)) → Type 0
+IsHelpCall (word ∷ []) [] = (word ≡ codes "help") ⊎ IsHelpWord word
+IsHelpCall (image ∷ []) (word ∷ []) = word ≡ codes "help"
+IsHelpCall images command = ⊥
 
-abbrev pub IsVersionWord : List ℕ → Type 0
-IsVersionWord word = word ≡ codes "--version"
-
--- There is one word in the place of images, such a one, and none of a command.
-abbrev pub IsAlone : (Is : List ℕ → Type 0) (images command : List (List ℕ)) → Type 0
-IsAlone Is (word ∷ []) [] = Is word
-IsAlone Is images command = ⊥
+-- the version as the only word
+abbrev pub IsVersionCall : (images command : List (List ℕ)) → Type 0
+IsVersionCall (word ∷ []) [] = IsVersionWord word
+IsVersionCall images command = ⊥

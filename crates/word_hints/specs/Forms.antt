@@ -68,6 +68,10 @@ abbrev pub HasRow : List Row → (first : List ℕ) → Row → Type 0
 HasRow [] first found = ⊥
 HasRow (row ∷ rows) first found = ((row.first ≡ first) × (found ≡ row)) ⊎ HasRow rows first found
 
+-- there is one
+abbrev pub IsCommand : (word : List ℕ) → Type 0
+IsCommand word = (row : Row) × HasRow rows word row
+
 abbrev pub HasNoRow : List Row → (first : List ℕ) → Type 0
 HasNoRow [] first = Unit {0}
 HasNoRow (row ∷ rows) first = (row.first ≢ first) × HasNoRow rows first

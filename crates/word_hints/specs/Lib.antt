@@ -1,4 +1,5 @@
 pub mod Asked
+pub mod Creating
 pub mod Faults
 pub mod Forms
 pub mod Hints

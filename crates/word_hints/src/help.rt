@@ -1,41 +1,30 @@
 //! The help and the version of the program.
 
-ghost use Rattle.std.specs.Prelude.{◌≡◌, ◌↔◌, Some, codes, map, string_bytes};
+ghost use Rattle.std.specs.Prelude.{◌≡◌, ◌↔◌, IsTrue, Some, codes, map, string_bytes};
 ghost use Rattle.qic_base.specs.SinkCalls.{Writes};
-ghost use Rattle.word_hints.specs.Asked.{IsAlone, IsHelpWord, IsVersionWord};
+ghost use Rattle.word_hints.specs.Asked.{IsHelpCall, IsVersionCall};
 
+use message_text::{Asks, what_is_asked as what_a_word_asks};
 use qic_base::{Sink, SinkFailed, write_text};
 
-/// What a single word in the place of an image asks for.
-#[derive(Clone, Copy)]
-pub enum Asks {
-    Help,
-    Version,
-}
-
-/// What a word asks for, where it asks for something.
-fn asked_by(word: &[u8]) -> Option<Asks>
-    ensures help { (result ≡ Some Asks.Help) ↔ IsHelpWord word.now }
-    ensures version { (result ≡ Some Asks.Version) ↔ IsVersionWord word.now }
+/// Whether a word asks for help in the place of an image, or of a command.
+fn is_help(word: &String) -> bool
+    ensures { IsTrue result ↔ (string_bytes word.now ≡ codes "help") }
 {
-    if word == "--help".as_bytes() || word == "-h".as_bytes() {
-        Some(Asks::Help)
-    } else if word == "--version".as_bytes() {
-        Some(Asks::Version)
-    } else {
-        None
-    }
+    word.as_bytes() == "help".as_bytes()
 }
 
-/// Whether the words of a call ask for help or the version: there is one, and it is one of these.
+/// What the words of a call ask for besides commands: help or the version, as the only word, or `help` after an image.
 pub fn what_is_asked(images: &[String], command: &[String]) -> Option<Asks>
     ensures help { (result ≡ Some Asks.Help)
-        ↔ IsAlone IsHelpWord (map string_bytes images.now) (map string_bytes command.now) }
+        ↔ IsHelpCall (map string_bytes images.now) (map string_bytes command.now) }
     ensures version { (result ≡ Some Asks.Version)
-        ↔ IsAlone IsVersionWord (map string_bytes images.now) (map string_bytes command.now) }
+        ↔ IsVersionCall (map string_bytes images.now) (map string_bytes command.now) }
 {
     match (images, command) {
-        ([word], []) => asked_by(word.as_bytes()),
+        ([word], []) if is_help(word) => Some(Asks::Help),
+        ([_], []) => what_a_word_asks(images),
+        ([_], [word]) if is_help(word) => Some(Asks::Help),
         _ => None,
     }
 }
@@ -56,25 +45,33 @@ pub fn write_version<K: Sink>(sink: &mut K) -> Result<(), SinkFailed>
 
 const HELP: &[u8] = b"usage: tape IMAGE COMMAND
 
-IMAGE is the file that holds the cartridge, and is created where there is none. The commands:
+Keeps backups on a QIC-80 cartridge in the file IMAGE, which new and pulses make
+if it does not exist. For a dump of a real tape use tape_import, tape_salvage.
 
-    new N                 puts in a new cartridge of N segments per track, 3 to 246, in place of what was there
-    defect SEG SEC        makes a defect of a sector that was never formatted
-    lose SEG SEC          makes a readable sector unreadable, until it is written again
-    protect on | off      sets or clears the write protect mark
-    upgrade               has the image kept in the newest layout
-    format LABEL [DATE]   makes the cartridge an empty one with this label and date; what was on it is lost
-    info                  tells what the header says
-    append NAME [DATE]    adds a volume of this name and date: standard input to its end
-    list                  tells the volumes
-    room                  tells how many bytes an append may have now
-    check                 tells what can be mended and what can't; writes nothing
-    restore N             gives volume N back
-    scrub                 writes the sectors again that can't be read and can be found
-    scrub deep            does as scrub, and also mends sectors that hold wrong bytes
-    pulses                sends trains of step pulses, read from standard input
+    new N                 inserts a blank cartridge, 3 to 246 segments a track
+    format LABEL [DATE]   erases and formats the cartridge
+    append NAME [DATE]    stores standard input as a new volume
+    restore N             writes volume N to standard output
+    list                  lists the volumes
+    info                  shows what the header says
+    room                  shows how many bytes another volume may have
+    check                 reports lost and wrong sectors; writes nothing
+    scrub                 rewrites lost sectors that parity can recover
+    scrub deep            also rewrites sectors that hold wrong bytes
+    protect on | off      sets or clears the write-protect mark
+    upgrade               converts the image to the newest layout
+
+For tests and scripts:
+    lose SEG SEC          makes a sector unreadable until it is rewritten
+    defect SEG SEC        makes a sector bad for good that was never formatted
     script                carries out the lines of standard input
-    make SEED COUNT       appends made volumes, loses sectors, scrubs and restores
+    pulses                sends the drive step pulses, read from standard input
+    make SEED COUNT       appends generated volumes, damages and restores them
 
-SEG counts from 0, SEC from 0 to 31; a DATE is written as 1996-02-29T12:00:00. The manual page: man tape
+SEG counts from 0, SEC from 0 to 31. DATE is 1996-02-29T12:00:00; without it,
+1970-01-01T00:00:00. If an image may be damaged, copy it and run check first:
+info, list, restore and all that write may change its volume table.
+Exit status 0: done; 2: usage; 11, 12: data lost; 21: check found damage; the
+others in 'man tape'. scrub and script exit with 0 even if data are lost.
+new and format erase what is there without asking.
 ";
