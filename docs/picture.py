@@ -88,7 +88,7 @@ class Told:
                 except OSError as error:
                     sys.exit(f"picture: {program}: {error.strerror}; build it by make")
                 if ran.returncode != 0:
-                    self.refusal = ran.stderr.decode("ascii", "replace").strip()
+                    self.refusal = ran.stderr.decode("ascii", "replace").partition("\n")[0]
                     return
                 self.take(command, ran.stdout.decode("ascii", "replace").splitlines())
 

@@ -60,11 +60,13 @@ and the list is as it was.
   appended 1 2405376 3 83
   $ of 2405377
   tape: full, need 2405377 have 2405376
+  tape: cart.img: there is room for a volume of 2405376 bytes
   [9]
   $ tape cart.img list
   volumes 0
   $ head -c 2405382 /dev/zero | (tape cart.img append a; wc -c)
   tape: full, need 2405377 have 2405376
+  tape: cart.img: there is room for a volume of 2405376 bytes
   5
 
 Defects are left out. With 28 of them a segment has four sectors that can be used, and so one of data; with 29 it carries
@@ -106,9 +108,11 @@ of the table.
   appended 81 0 83 83
   $ tape cart.img append e < /dev/null
   tape: full, need 0 have 0
+  tape: cart.img: there is no room for another volume
   [9]
   $ printf xyz | (tape cart.img append e; wc -c)
   tape: full, need 1 have 0
+  tape: cart.img: there is no room for another volume
   2
   $ tape cart.img list | tail -n 2
   81 83 83 0 1970-01-01T00:00:00 e
@@ -125,21 +129,25 @@ A protected cartridge takes no volume, and a byte of the input is not taken eith
   $ cp cart.img before.img
   $ printf xyz | (tape cart.img append a; wc -c)
   tape: the cartridge is protected
+  tape: cart.img: write-protected; 'protect off' clears the mark
   3
   $ cmp before.img cart.img
   $ tape none.img append a < /dev/null
   tape: no cartridge
+  tape: none.img does not exist
   [4]
   $ tape none.img new 3
   blank 3
   $ tape none.img append a < /dev/null
   tape: the cartridge is not formatted
+  tape: none.img: no header can be read: if this cartridge was ever in use, do not format it; run check
   [6]
   $ cp whole.img cart.img
   $ each lose 2 0 1 2 3
   4 of 4 done
   $ tape cart.img append a < /dev/null
   tape: segment 2 lost 4 sectors
+  tape: cart.img: the volume table can't be read: keep the image, and see EXIT STATUS 11 in man tape
   [11]
 
 An input that fails leaves the list as it was: here standard input is a folder, which can't be read.
@@ -147,6 +155,7 @@ An input that fails leaves the list as it was: here standard input is a folder, 
   $ cp whole.img cart.img
   $ tape cart.img append a < .
   tape: input failed
+  tape: cart.img: the input can't be read
   [16]
   $ tape cart.img list
   volumes 0
@@ -155,6 +164,7 @@ With an output that is full the volume stands.
 
   $ tape cart.img append a < /dev/null > /dev/full
   tape: output failed
+  tape: cart.img: the output can't be written
   [17]
   $ tape cart.img list
   1 3 3 0 1970-01-01T00:00:00 a

@@ -40,6 +40,7 @@ It is listed and given back, by scripts too, and the drive answers.
   ten bytes. (no-eol)
   $ reader cart.img restore 2
   tape: no volume 2 of 1
+  tape: cart.img: 'list' shows the volumes
   [10]
   $ printf '6\n' | reader cart.img pulses
   1
@@ -57,39 +58,40 @@ It is listed and given back, by scripts too, and the drive answers.
   upgraded from 2
   $ reader cart.img lose 99 0
   tape: no such sector
+  tape: cart.img: 'info' shows how many segments there are; sectors are 0 to 31
   [15]
 
 What has to write fails as the tape's.
 
   $ reader cart.img protect on
   tape: the tape failed
-  tape: the image is opened for reading alone
+  tape: cart.img: the file is read-only
   [18]
   $ reader cart.img lose 3 0
   tape: the tape failed
-  tape: the image is opened for reading alone
+  tape: cart.img: the file is read-only
   [18]
   $ printf 'more' | reader cart.img append b
   tape: the tape failed
-  tape: the image is opened for reading alone
+  tape: cart.img: the file is read-only
   [18]
   $ reader cart.img format evening
   tape: the tape failed
-  tape: the image is opened for reading alone
+  tape: cart.img: the file is read-only
   [18]
   $ reader cart.img make 1 1
   tape: the tape failed
-  tape: the image is opened for reading alone
+  tape: cart.img: the file is read-only
   [18]
   $ reader cart.img new 3
   tape: the tape failed
-  tape: the image is opened for reading alone
+  tape: cart.img: the file is read-only
   [18]
   $ printf 'list\nlose 3 0\nlist\n' | reader cart.img script
   1 3 3 10 1994-03-01T12:00:00 a
   volumes 1
   tape: the tape failed
-  tape: the image is opened for reading alone
+  tape: cart.img: the file is read-only
   [18]
   $ cmp cart.img open.img
 
@@ -100,7 +102,7 @@ So does an upgrade of an image of version 1.
   $ chmod a-w old.img
   $ reader old.img upgrade
   tape: the tape failed
-  tape: the image is opened for reading alone
+  tape: old.img: the file is read-only
   [18]
   $ tr -d '\0' < old.img | wc -c
   10
@@ -113,7 +115,7 @@ A table that is not settled has to be written, unless the cartridge is protected
   $ chmod a-w lost.img
   $ reader lost.img list
   tape: the tape failed
-  tape: the image is opened for reading alone
+  tape: lost.img: the file is read-only
   [18]
   $ chmod u+w lost.img
   $ tape lost.img protect on
@@ -125,12 +127,13 @@ A table that is not settled has to be written, unless the cartridge is protected
   volumes 1
   $ printf 'more' | reader lost.img append b
   tape: the cartridge is protected
+  tape: lost.img: write-protected; 'protect off' clears the mark
   [5]
   $ reader lost.img protect on
   protected on
   $ reader lost.img protect off
   tape: the tape failed
-  tape: the image is opened for reading alone
+  tape: lost.img: the file is read-only
   [18]
   $ cmp lost.img before.img
 
@@ -148,7 +151,7 @@ Two runs that read have it at once, and none that writes beside them.
   $ chmod u+w cart.img
   $ reader cart.img list
   tape: cannot open the image
-  tape: cart.img is locked by a run that uses it
+  tape: cart.img is in use by another process, or named twice in this command
   [20]
   $ echo end >&8
   $ wait $first
@@ -168,12 +171,13 @@ can't be opened.
   >     reader $image new 3
   > done
   tape: no cartridge
+  tape: empty.img: it holds no cartridge, or a 'new' or an import was interrupted; check the path
   tape: the tape failed
-  tape: the image is opened for reading alone
+  tape: empty.img: the file is read-only
   tape: cannot open the image
-  tape: letter holds something else
+  tape: letter is not a tape image; for a dump use tape_import or tape_salvage
   tape: cannot open the image
-  tape: letter holds something else
+  tape: letter is not a tape image; for a dump use tape_import or tape_salvage
   [20]
   $ cat empty.img letter
   Dear Sir

@@ -58,47 +58,56 @@ The label of the second cartridge, and its map, are its own.
 Refusals
 --------
 
-A status tells how a copy ended, and nothing is printed of it but that a cartridge is absent, or why an image can't be opened.
+Each status but 0 comes with a line on standard error, which names the image that it is about.
 
   $ tape_dup
+  usage: tape_dup FROM TO
   [2]
   $ tape_dup from.img
+  usage: tape_dup FROM TO
   [2]
   $ tape_dup from.img to.img more
+  usage: tape_dup FROM TO
   [2]
   $ tape_dup none.img to.img
   tape_dup: no cartridge
+  tape_dup: none.img does not exist
   [30]
   $ tape_dup from.img empty.img
   tape_dup: no cartridge
+  tape_dup: empty.img does not exist
   [31]
   $ tape_dup none.img empty.img
   tape_dup: no cartridge
+  tape_dup: none.img does not exist
   [30]
 
 A file is locked once, so it is no copy of itself; a device is no image.
 
   $ tape_dup from.img from.img
-  tape_dup: from.img is locked by a run that uses it
+  tape_dup: from.img is in use by another process, or named twice in this command
   [20]
   $ tape_dup from.img /dev/null
-  tape_dup: /dev/null is no regular file
+  tape_dup: /dev/null is not a regular file
   [20]
   $ tape_dup from.img none/to.img
-  tape_dup: none/to.img can't be made: No such file or directory
-  [20]
+  tape_dup: no cartridge
+  tape_dup: none/to.img does not exist
+  [31]
 
 A cartridge that is not formatted is refused, the first one before the second.
 
   $ tape blank.img new 3
   blank 3
   $ tape_dup blank.img blank.img
-  tape_dup: blank.img is locked by a run that uses it
+  tape_dup: blank.img is in use by another process, or named twice in this command
   [20]
   $ cp blank.img other.img
   $ tape_dup blank.img other.img
+  tape_dup: blank.img: no header can be read: if this cartridge was ever in use, do not format it; run check
   [32]
   $ tape_dup from.img blank.img
+  tape_dup: blank.img: no header can be read: if this cartridge was ever in use, do not format it; run check
   [33]
 
 A protected cartridge takes no copy, also where it lacks no volume. The one that is copied may be protected, or be a file
@@ -107,6 +116,7 @@ that may not be written.
   $ tape to.img protect on
   protected on
   $ tape_dup from.img to.img
+  tape_dup: to.img: write-protected; 'protect off' clears the mark
   [33]
   $ tape to.img protect off
   protected off
@@ -132,6 +142,7 @@ are is not asked.
   appended 1 10 3 3
   $ cp other.img before.img
   $ tape_dup from.img other.img
+  tape_dup: other.img: volume 1 is not a copy: the other image has another one, or none
   [34]
   $ cmp other.img before.img
   $ printf 9876543210 | tape alike.img append a
@@ -146,12 +157,14 @@ are is not asked.
 A target with more volumes differs, too.
 
   $ tape_dup short.img alike.img
+  tape_dup: alike.img: volume 1 is not a copy: the other image has another one, or none
   [34]
 
 An output that takes no line ends the copy behind the volume that the line is of.
 
   $ cp short.img lined.img
   $ tape_dup from.img lined.img > /dev/full
+  tape_dup: the output can't be written
   [17]
   $ tape lined.img list
   1 3 3 10 1970-01-01T00:00:00 a
@@ -178,6 +191,7 @@ There is room for so many bytes.
   $ tape bad.img format B
   formatted 84 1
   $ tape_dup full.img bad.img
+  tape_dup: bad.img: there is room for a volume of 2404352 bytes
   [33]
   $ tape bad.img list
   volumes 0
@@ -208,6 +222,7 @@ it isn't, and the volumes before it stay.
   lost 4 2
   $ cp short.img worse.img
   $ tape_dup lossy.img worse.img
+  tape_dup: lossy.img: segment 4 can't be read: parity recovers at most 3 lost sectors
   [32]
   $ tape worse.img list
   volumes 0

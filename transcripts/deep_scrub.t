@@ -22,6 +22,7 @@ block agrees with the sectors, so neither `restore` nor `scrub` can tell which o
   $ cp cart.img wrong.img
   $ tape cart.img restore 1
   tape: segment 3 does not agree
+  tape: cart.img: the output is incomplete: it ends before segment 3; try 'scrub deep' on a copy
   [12]
   $ tape cart.img scrub
   mismatch 3
@@ -135,6 +136,7 @@ Where each header copy has a wrong sector, none can be read, and the cartridge i
   $ flip 1 28 1023
   $ tape cart.img scrub deep
   tape: the cartridge is not formatted
+  tape: cart.img: no header can be read: if this cartridge was ever in use, do not format it; run check
   [6]
 
 In each kind of segment
@@ -226,9 +228,11 @@ Where it isn't done
   protected on
   $ tape cart.img scrub deep
   tape: the cartridge is protected
+  tape: cart.img: write-protected; 'protect off' clears the mark
   [5]
   $ tape none.img scrub deep
   tape: no cartridge
+  tape: none.img does not exist
   [4]
 
 Scripts don't have it.
@@ -237,4 +241,5 @@ Scripts don't have it.
   protected off
   $ printf 'scrub deep\n' | tape cart.img script
   tape: input fault in line 1 at byte 0
+  tape: cart.img: the line is not valid; those before it were carried out
   [3]

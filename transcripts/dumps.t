@@ -64,7 +64,7 @@ The image is none for its map.
 
   $ tape_export --map cart.img cart.img > none.dump
   tape_export: cannot open the map
-  tape_export: cart.img is locked by a run that uses it
+  tape_export: cart.img is in use by another process, or named twice in this command
   [20]
   $ cmp before.img cart.img
 
@@ -74,11 +74,11 @@ The image is none for its map.
   [5]
   $ tape_export /dev/null
   tape_export: cannot open the image
-  tape_export: /dev/null is no regular file
+  tape_export: /dev/null is not a regular file
   [20]
   $ tape_export --map /dev/null cart.img
   tape_export: cannot open the map
-  tape_export: /dev/null is no regular file
+  tape_export: /dev/null is not a regular file
   [20]
   $ tape_export cart.img > cart.img.dump 2> cart.img < cart.img
   [20]

@@ -20,6 +20,7 @@ scrub finds the sector that its segment's parity says is wrong.
   imported 84 2528
   $ tape zeros.img restore 1
   tape: segment 3 does not agree
+  tape: zeros.img: the output is incomplete: it ends before segment 3; try 'scrub deep' on a copy
   [12]
   $ tape zeros.img scrub deep
   wrong 3 0

@@ -60,6 +60,7 @@ More segments may be asked for than the dump has. The header tells that it is of
   imported 112 896
   $ tape long.img list
   tape: foreign last-data 83
+  tape: long.img: another layout, or damage: keep the image; tape_export and tape_salvage can read it
   [7]
 
 Without the map the zero bytes in the place of the lost sectors are taken as read. Those of the sectors 1 and 2 are what was
@@ -69,6 +70,7 @@ written there; those of sector 0 are not.
   imported 84 2528
   $ tape zeros.img restore 1
   tape: segment 3 does not agree
+  tape: zeros.img: the output is incomplete: it ends before segment 3; try 'scrub deep' on a copy
   [12]
 
 The peer
@@ -186,6 +188,20 @@ and can be imported into.
   $ tape_import none.img < /dev/null
   tape_import: 0 bytes are no cartridge
   [4]
+
+A longer one is read no further than one byte behind the longest that there is, 917,504 * 246, or that of those segments per
+track. So an input without an end is refused, too.
+
+  $ tape_import none.img < /dev/zero
+  tape_import: 225705985 bytes are no cartridge
+  [4]
+  $ tape_import --segments 3 none.img < /dev/zero
+  tape_import: 2752513 bytes are no cartridge
+  [4]
+  $ { head -c 3000000 /dev/zero; echo next; } > long.dump
+  $ { tape_import --segments 3 none.img; wc -c; } < long.dump
+  tape_import: 2752513 bytes are no cartridge
+  247492
   $ wc -c < none.img
   0
 
@@ -207,29 +223,29 @@ A map is not created, and is no device, no standard stream, and not the image, w
   [1]
   $ tape_import --map /dev/null none.img < page.dump
   tape_import: cannot open the map
-  tape_import: /dev/null is no regular file
+  tape_import: /dev/null is not a regular file
   [20]
   $ tape_import --map page.map none.img < page.map
   tape_import: cannot open the map
-  tape_import: page.map is a standard stream of this run
+  tape_import: page.map is also standard input or output of this command
   [20]
   $ cp page.map both
   $ tape_import --map both both < page.dump
   tape_import: cannot open the map
-  tape_import: both is locked by a run that uses it
+  tape_import: both is in use by another process, or named twice in this command
   [20]
   $ cmp both page.map
   $ tape_import --map none.img none.img < page.dump
   tape_import: cannot open the map
-  tape_import: none.img is locked by a run that uses it
+  tape_import: none.img is in use by another process, or named twice in this command
   [20]
   $ tape_import page.dump < page.dump
   tape_import: cannot open the image
-  tape_import: page.dump is a standard stream of this run
+  tape_import: page.dump is also standard input or output of this command
   [20]
   $ tape_import /dev/null < page.dump
   tape_import: cannot open the image
-  tape_import: /dev/null is no regular file
+  tape_import: /dev/null is not a regular file
   [20]
   $ tape_import none.img < page.dump 2> none.img
   [20]
@@ -248,7 +264,7 @@ An input that fails, and an output: what can't be told is taken back.
   0
   $ (trap '' XFSZ; ulimit -f 1000; exec tape_import full.img < page.dump)
   tape_import: the image failed
-  tape_import: File too large
+  tape_import: full.img: File too large
   [18]
   $ tape_import none.img <&-
   tape_import: 0 bytes are no cartridge

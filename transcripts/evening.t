@@ -126,6 +126,7 @@ sector was lost.
   $ cp whole.img cart.img
   $ tape cart.img make 0 200
   tape: full, need 708000 have 178176
+  tape: cart.img: there is room for a volume of 178176 bytes
   [9]
   $ tape cart.img list
   1 3 6 102000 1970-01-01T00:00:00 made-1
@@ -143,6 +144,7 @@ The longest volume that can be made has 20,000,000 bytes.
   $ cp whole.img cart.img
   $ tape cart.img make 16754 1
   tape: full, need 20000000 have 2405376
+  tape: cart.img: there is room for a volume of 2405376 bytes
   [9]
   $ cmp whole.img cart.img
 
@@ -153,6 +155,7 @@ A cartridge that is protected is refused, whether it is formatted or not, and no
   $ cp cart.img before.img
   $ tape cart.img make 1 1
   tape: the cartridge is protected
+  tape: cart.img: write-protected; 'protect off' clears the mark
   [5]
   $ cmp before.img cart.img
 
@@ -160,28 +163,33 @@ A run that is refused leaves its input unread, too.
 
   $ echo 'nor of this' | (tape cart.img make 1 1; cat)
   tape: the cartridge is protected
+  tape: cart.img: write-protected; 'protect off' clears the mark
   nor of this
 
 So is a run without a cartridge, and one on a cartridge that isn't formatted; the protect mark is asked for before that.
 
   $ tape none.img make 1 1
   tape: no cartridge
+  tape: none.img does not exist
   [4]
   $ tape none.img new 3
   blank 3
   $ tape none.img make 1 1
   tape: the cartridge is not formatted
+  tape: none.img: no header can be read: if this cartridge was ever in use, do not format it; run check
   [6]
   $ tape none.img protect on
   protected on
   $ tape none.img make 1 1
   tape: the cartridge is protected
+  tape: none.img: write-protected; 'protect off' clears the mark
   [5]
   $ cp whole.img cart.img
   $ each lose 2 0 1 2 3
   4 of 4 done
   $ tape cart.img make 1 1
   tape: segment 2 lost 4 sectors
+  tape: cart.img: the volume table can't be read: keep the image, and see EXIT STATUS 11 in man tape
   [11]
 
 So is one with a header or a volume table of another tool, and one whose table agrees with no code block.
@@ -193,11 +201,13 @@ So is one with a header or a volume table of another tool, and one whose table a
   $ put 0 0 4 '\x04'
   $ refused
   tape: foreign format-code 4
+  tape: cart.img: another layout, or damage: keep the image; tape_export and tape_salvage can read it
   7
   $ cp whole.img cart.img
   $ put 2 1 0 VTBL
   $ refused
   tape: foreign slot 8
+  tape: cart.img: the volume table has an invalid entry; run check, and see EXIT STATUS 7 in man tape
   7
   $ cp whole.img cart.img
   $ put 2 29 0 '\x01'
@@ -205,6 +215,7 @@ So is one with a header or a volume table of another tool, and one whose table a
   2 of 2 done
   $ refused
   tape: the volume table does not agree
+  tape: cart.img: the volume table is corrupt: keep the image, and see EXIT STATUS 8 in man tape
   8
 
 With an output that is full the volumes stand.
@@ -212,6 +223,7 @@ With an output that is full the volumes stand.
   $ cp whole.img cart.img
   $ tape cart.img make 9727 1 > /dev/full
   tape: output failed
+  tape: cart.img: the output can't be written
   [17]
   $ tape cart.img list
   1 3 3 1000 1970-01-01T00:00:00 made-1

@@ -13,21 +13,26 @@ mark of the layout, 0x5A; and what is behind the sectors is not looked at.
   $ file 2760640 'QIC80IMG\1\0\3\0'
   $ tape cart.img list
   tape: the cartridge is not formatted
+  tape: cart.img: no header can be read: if this cartridge was ever in use, do not format it; run check
   [6]
   $ file 3680832 'QIC80IMG\1\0\4\0\x5A'
   $ tape cart.img list
   tape: the cartridge is not formatted
+  tape: cart.img: no header can be read: if this cartridge was ever in use, do not format it; run check
   [6]
   $ tape cart.img format L
   tape: the cartridge is protected
+  tape: cart.img: write-protected; 'protect off' clears the mark
   [5]
   $ file 2760640 'QIC80IMG\1\0\3\0\0\0\xA5\xFF\xFF\xFF\xFF\xFF\xFF\xFF\xFF\xFF\xFF'
   $ tape cart.img list
   tape: the cartridge is not formatted
+  tape: cart.img: no header can be read: if this cartridge was ever in use, do not format it; run check
   [6]
   $ file 2760641 'QIC80IMG\1\0\3\0'
   $ tape cart.img list
   tape: the cartridge is not formatted
+  tape: cart.img: no header can be read: if this cartridge was ever in use, do not format it; run check
   [6]
 
 In version 2 the mark stands. The eight bytes from 16 on are the base, where the sectors begin: 64; or, where an image of
@@ -37,18 +42,22 @@ version is not read then.
   $ file 2760640 'QIC80IMG\2\0\3\0\0\0\x5A\0\x40'
   $ tape cart.img list
   tape: the cartridge is not formatted
+  tape: cart.img: no header can be read: if this cartridge was ever in use, do not format it; run check
   [6]
   $ file 2760640 'QIC80IMG\xFF\xFF\3\0\x5A\0\x5A\xFF\x40\0\0\0\0\0\0\0\xFF'
   $ tape cart.img format L
   tape: the cartridge is protected
+  tape: cart.img: write-protected; 'protect off' clears the mark
   [5]
   $ file 5521216 'QIC80IMG\1\0\3\0\0\0\x5A\0\xC0\x1F\x2A'
   $ tape cart.img list
   tape: the cartridge is not formatted
+  tape: cart.img: no header can be read: if this cartridge was ever in use, do not format it; run check
   [6]
   $ file 5521217 'QIC80IMG\2\0\3\0\0\0\x5A\0\x40'
   $ tape cart.img list
   tape: the cartridge is not formatted
+  tape: cart.img: no header can be read: if this cartridge was ever in use, do not format it; run check
   [6]
 
 An empty file holds no cartridge, and each command but `new` leaves it as it is. Any other file holds something else and is no image;
@@ -62,89 +71,90 @@ each command leaves it as it is, `new`, too.
   > }
   $ file 0 ''
   $ looks
+  8 tape: cart.img: it holds no cartridge, or a 'new' or an import was interrupted; check the path
   8 tape: no cartridge
   $ file 13 'QIC80IMG\1\0\3\0'
   $ looks
   8 tape: cannot open the image
-  8 tape: cart.img holds something else
+  8 tape: cart.img is not a tape image; for a dump use tape_import or tape_salvage
   $ file 14 'QIC80IMG\1\0\3\0'
   $ looks
   8 tape: cannot open the image
-  8 tape: cart.img holds something else
+  8 tape: cart.img is not a tape image; for a dump use tape_import or tape_salvage
   $ file 2760639 'QIC80IMG\1\0\3\0'
   $ looks
   8 tape: cannot open the image
-  8 tape: cart.img holds something else
+  8 tape: cart.img is not a tape image; for a dump use tape_import or tape_salvage
   $ file 2760640 'QIC80IMG\1\0\4\0'
   $ looks
   8 tape: cannot open the image
-  8 tape: cart.img holds something else
+  8 tape: cart.img is not a tape image; for a dump use tape_import or tape_salvage
   $ file 2760640 'QIC80IMH\1\0\3\0'
   $ looks
   8 tape: cannot open the image
-  8 tape: cart.img holds something else
+  8 tape: cart.img is not a tape image; for a dump use tape_import or tape_salvage
   $ file 2760640 'qIC80IMG\1\0\3\0'
   $ looks
   8 tape: cannot open the image
-  8 tape: cart.img holds something else
+  8 tape: cart.img is not a tape image; for a dump use tape_import or tape_salvage
   $ file 2760640 'QIC80IMG\2\0\3\0'
   $ looks
   8 tape: cannot open the image
-  8 tape: cart.img holds something else
+  8 tape: cart.img is not a tape image; for a dump use tape_import or tape_salvage
   $ file 2760640 'QIC80IMG\1\1\3\0'
   $ looks
   8 tape: cannot open the image
-  8 tape: cart.img holds something else
+  8 tape: cart.img is not a tape image; for a dump use tape_import or tape_salvage
   $ file 2760640 'QIC80IMG\1\0\3\1'
   $ looks
   8 tape: cannot open the image
-  8 tape: cart.img holds something else
+  8 tape: cart.img is not a tape image; for a dump use tape_import or tape_salvage
 
 So do an image with the mark that is too short for its base, and one with another base.
 
   $ file 24 'QIC80IMG\2\0\3\0\0\0\x5A\0\x40'
   $ looks
   8 tape: cannot open the image
-  8 tape: cart.img holds something else
+  8 tape: cart.img is not a tape image; for a dump use tape_import or tape_salvage
   $ file 2760639 'QIC80IMG\2\0\3\0\0\0\x5A\0\x40'
   $ looks
   8 tape: cannot open the image
-  8 tape: cart.img holds something else
+  8 tape: cart.img is not a tape image; for a dump use tape_import or tape_salvage
   $ file 5521215 'QIC80IMG\2\0\3\0\0\0\x5A\0\xC0\x1F\x2A'
   $ looks
   8 tape: cannot open the image
-  8 tape: cart.img holds something else
+  8 tape: cart.img is not a tape image; for a dump use tape_import or tape_salvage
   $ file 5521216 'QIC80IMG\1\0\3\0\0\0\x5A'
   $ looks
   8 tape: cannot open the image
-  8 tape: cart.img holds something else
+  8 tape: cart.img is not a tape image; for a dump use tape_import or tape_salvage
   $ file 5521216 'QIC80IMG\2\0\3\0\0\0\x5A\0\x3F'
   $ looks
   8 tape: cannot open the image
-  8 tape: cart.img holds something else
+  8 tape: cart.img is not a tape image; for a dump use tape_import or tape_salvage
   $ file 5521216 'QIC80IMG\2\0\3\0\0\0\x5A\0\x41'
   $ looks
   8 tape: cannot open the image
-  8 tape: cart.img holds something else
+  8 tape: cart.img is not a tape image; for a dump use tape_import or tape_salvage
   $ file 5521216 'QIC80IMG\2\0\3\0\0\0\x5A\0\xC0\x1F\x2A\0\0\0\0\1'
   $ looks
   8 tape: cannot open the image
-  8 tape: cart.img holds something else
+  8 tape: cart.img is not a tape image; for a dump use tape_import or tape_salvage
   $ file 2760640 'QIC80IMG\2\0\3\0\0\0\x5B\0\x40'
   $ looks
   8 tape: cannot open the image
-  8 tape: cart.img holds something else
+  8 tape: cart.img is not a tape image; for a dump use tape_import or tape_salvage
 
 An image of two segments per track would have 1,840,448 bytes, and is none.
 
   $ file 1840448 'QIC80IMG\1\0\2\0'
   $ looks
   8 tape: cannot open the image
-  8 tape: cart.img holds something else
+  8 tape: cart.img is not a tape image; for a dump use tape_import or tape_salvage
   $ file 1840448 'QIC80IMG\2\0\2\0\0\0\x5A\0\x40'
   $ looks
   8 tape: cannot open the image
-  8 tape: cart.img holds something else
+  8 tape: cart.img is not a tape image; for a dump use tape_import or tape_salvage
 
 Nor is a letter an image. It stays as it was, whatever the command, and so it does by words that are no command.
 
@@ -152,19 +162,19 @@ Nor is a letter an image. It stays as it was, whatever the command, and so it do
   $ cp letter before
   $ tape letter list
   tape: cannot open the image
-  tape: letter holds something else
+  tape: letter is not a tape image; for a dump use tape_import or tape_salvage
   [20]
   $ printf '6\n' | tape letter pulses
   tape: cannot open the image
-  tape: letter holds something else
+  tape: letter is not a tape image; for a dump use tape_import or tape_salvage
   [20]
   $ tape letter new 3
   tape: cannot open the image
-  tape: letter holds something else
+  tape: letter is not a tape image; for a dump use tape_import or tape_salvage
   [20]
   $ tape letter list now
   usage: tape IMAGE COMMAND
-  tape: the command is list
+  tape: wrong number of arguments; use: tape IMAGE list
   [2]
   $ cmp letter before
 
@@ -264,12 +274,12 @@ Where there is no image
 A file is made only where its folder is.
 
   $ tape no/such/folder.img list
-  tape: cannot open the image
-  tape: no/such/folder.img can't be made: No such file or directory
-  [20]
+  tape: no cartridge
+  tape: no/such/folder.img does not exist
+  [4]
   $ tape . list
   tape: cannot open the image
-  tape: . is no regular file
+  tape: . is not a regular file
   [20]
   $ ls no
   ls: cannot access 'no': No such file or directory

@@ -1,14 +1,14 @@
 First steps with a cartridge
 ============================
 
-`tape` keeps a cartridge in an image file. The first word is the file, the others are a command. Where there is no such
-file it is made, empty, and an empty file is a drive without a cartridge:
+`tape` keeps a cartridge in an image file. The first word is the file, the others are a command. Only `new` and `pulses` make a
+file that isn't there:
 
   $ tape evening.img list
   tape: no cartridge
+  tape: evening.img does not exist
   [4]
-  $ wc -c < evening.img
-  0
+  $ ls
 
 A new cartridge of three segments per track is a short one, but has all that a long one has: 28 tracks of three
 segments of 32 sectors. Its image is a head of 64 bytes, and 1,027 bytes for each of the 2,688 sectors.
@@ -22,9 +22,11 @@ Nothing was ever written on it, so it has neither a label nor a list of volumes.
 
   $ tape evening.img list
   tape: the cartridge is not formatted
+  tape: evening.img: no header can be read: if this cartridge was ever in use, do not format it; run check
   [6]
   $ tape evening.img info
   tape: the cartridge is not formatted
+  tape: evening.img: no header can be read: if this cartridge was ever in use, do not format it; run check
   [6]
 
 Formatting gives it both. Of its 84 segments no sector is bad.
@@ -69,6 +71,7 @@ The write protect mark keeps a cartridge from being formatted. It is no hindranc
   protected on
   $ tape evening.img format M
   tape: the cartridge is protected
+  tape: evening.img: write-protected; 'protect off' clears the mark
   [5]
   $ tape evening.img list
   volumes 0
@@ -112,4 +115,5 @@ A tape of 205 ft has 100 segments per track. This one has five sectors in segmen
   138028864
   $ tape long.img list
   tape: the cartridge is not formatted
+  tape: long.img: no header can be read: if this cartridge was ever in use, do not format it; run check
   [6]

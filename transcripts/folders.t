@@ -12,12 +12,10 @@ first; where that can't be done this page is skipped.
 
 A new image may be read and written by all whom the mask of the run lets.
 
-  $ (umask 000; tape open.img list)
-  tape: no cartridge
-  [4]
-  $ (umask 027; tape own.img list)
-  tape: no cartridge
-  [4]
+  $ (umask 000; tape open.img new 3)
+  blank 3
+  $ (umask 027; tape own.img new 3)
+  blank 3
   $ stat -c %a open.img own.img
   666
   640
@@ -39,6 +37,7 @@ A folder whose name is no UTF-8 text, and one below a folder that may not be sea
   blank 3
   $ member cart.img list
   tape: the cartridge is not formatted
+  tape: cart.img: no header can be read: if this cartridge was ever in use, do not format it; run check
   [6]
   $ chmod u+rwx ..
   $ cmp cart.img ../../cart.img
@@ -76,4 +75,5 @@ An image of another user, in a folder where all may make files and each may take
   protected on
   $ member shared/cart.img format L
   tape: the cartridge is protected
+  tape: shared/cart.img: write-protected; 'protect off' clears the mark
   [5]

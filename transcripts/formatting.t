@@ -21,6 +21,7 @@ A sector that was formatted can't become a defect any more. On one that is a def
 
   $ tape cart.img defect 3 0
   tape: the sector is formatted
+  tape: cart.img: only a sector that was never formatted can be made a defect
   [14]
   $ tape cart.img defect 4 31
   defect 4 31
@@ -57,27 +58,35 @@ of them with a defect is named, and the cartridge is unformatted then.
   $ front() { tape cart.img new 3 > new; for segment; do each defect $segment 7 > done; done; tape cart.img format L; }
   $ front 1
   tape: defect in segment 1
+  tape: cart.img: it can't be formatted: segments 0 to 2 must have no bad sector
   [13]
   $ tape cart.img list
   tape: the cartridge is not formatted
+  tape: cart.img: no header can be read: if this cartridge was ever in use, do not format it; run check
   [6]
   $ tape cart.img info
   tape: the cartridge is not formatted
+  tape: cart.img: no header can be read: if this cartridge was ever in use, do not format it; run check
   [6]
   $ front 0
   tape: defect in segment 0
+  tape: cart.img: it can't be formatted: segments 0 to 2 must have no bad sector
   [13]
   $ front 2
   tape: defect in segment 2
+  tape: cart.img: it can't be formatted: segments 0 to 2 must have no bad sector
   [13]
   $ front 2 1
   tape: defect in segment 1
+  tape: cart.img: it can't be formatted: segments 0 to 2 must have no bad sector
   [13]
   $ front 1 2 0
   tape: defect in segment 0
+  tape: cart.img: it can't be formatted: segments 0 to 2 must have no bad sector
   [13]
   $ front 83 2 3
   tape: defect in segment 2
+  tape: cart.img: it can't be formatted: segments 0 to 2 must have no bad sector
   [13]
   $ front 3 83
   formatted 84 2
@@ -91,9 +100,11 @@ command refuses a sector that is formatted: sector 1 of segment 2 has the number
   $ alter 66821 '\xBD'
   $ tape cart.img format M
   tape: defect in segment 2
+  tape: cart.img: it can't be formatted: segments 0 to 2 must have no bad sector
   [13]
   $ tape cart.img list
   tape: the cartridge is not formatted
+  tape: cart.img: no header can be read: if this cartridge was ever in use, do not format it; run check
   [6]
 
 Protected cartridges
@@ -109,12 +120,14 @@ image would show, and its sectors were never formatted: one of them is still mad
   $ cp cart.img before.img
   $ tape cart.img format L
   tape: the cartridge is protected
+  tape: cart.img: write-protected; 'protect off' clears the mark
   [5]
   $ cmp cart.img before.img
   $ look_at 12 2
    5a 00
   $ tape cart.img list
   tape: the cartridge is not formatted
+  tape: cart.img: no header can be read: if this cartridge was ever in use, do not format it; run check
   [6]
   $ tape cart.img defect 0 0
   defect 0 0
@@ -130,6 +143,7 @@ Nor is a formatted one.
   $ cp cart.img before.img
   $ tape cart.img format M
   tape: the cartridge is protected
+  tape: cart.img: write-protected; 'protect off' clears the mark
   [5]
   $ cmp cart.img before.img
   $ look_at 12 2
@@ -149,6 +163,7 @@ a cartridge whose header and volume table are gone.
   4 of 4 done
   $ tape cart.img list
   tape: segment 2 lost 4 sectors
+  tape: cart.img: the volume table can't be read: keep the image, and see EXIT STATUS 11 in man tape
   [11]
   $ tape cart.img format M
   formatted 84 0
@@ -170,6 +185,7 @@ A line that can't be printed
 
   $ tape cart.img format N > /dev/full
   tape: output failed
+  tape: cart.img: the output can't be written
   [17]
   $ tape cart.img info | grep label
   label N
@@ -259,4 +275,5 @@ The parity is right, since the header is found again without any three sectors o
   1 of 1 done
   $ tape cart.img info
   tape: the cartridge is not formatted
+  tape: cart.img: no header can be read: if this cartridge was ever in use, do not format it; run check
   [6]

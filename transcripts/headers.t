@@ -42,14 +42,23 @@ format code.
   > 4 04
   > TABLE
   tape: foreign floppy-sector-maximum 127
+  tape: cart.img: another layout, or damage: keep the image; tape_export and tape_salvage can read it
   tape: foreign floppy-track-maximum 150
+  tape: cart.img: another layout, or damage: keep the image; tape_export and tape_salvage can read it
   tape: foreign tracks 27
+  tape: cart.img: another layout, or damage: keep the image; tape_export and tape_salvage can read it
   tape: foreign segments-per-track 259
+  tape: cart.img: another layout, or damage: keep the image; tape_export and tape_salvage can read it
   tape: foreign last-data 84
+  tape: cart.img: another layout, or damage: keep the image; tape_export and tape_salvage can read it
   tape: foreign first-data 258
+  tape: cart.img: another layout, or damage: keep the image; tape_export and tape_salvage can read it
   tape: foreign second-header 0
+  tape: cart.img: another layout, or damage: keep the image; tape_export and tape_salvage can read it
   tape: foreign first-header 256
+  tape: cart.img: another layout, or damage: keep the image; tape_export and tape_salvage can read it
   tape: foreign format-code 4
+  tape: cart.img: another layout, or damage: keep the image; tape_export and tape_salvage can read it
   [7]
 
 A header that is foreign is in force all the same: the copy, which is whole, does not take its place. And where copy 0 is
@@ -57,6 +66,7 @@ good, copy 1 isn't looked at.
 
   $ tape cart.img list
   tape: foreign format-code 4
+  tape: cart.img: another layout, or damage: keep the image; tape_export and tape_salvage can read it
   [7]
   $ cp whole.img cart.img
   $ put 1 0 4 '\x04'
@@ -65,6 +75,7 @@ good, copy 1 isn't looked at.
   $ put 0 0 4 '\x04'
   $ tape cart.img info
   tape: foreign format-code 4
+  tape: cart.img: another layout, or damage: keep the image; tape_export and tape_salvage can read it
   [7]
 
 Nothing was written in any of these looks, since a refusal comes before the table is settled.
@@ -74,6 +85,7 @@ Nothing was written in any of these looks, since a refusal comes before the tabl
   $ cp cart.img before.img
   $ tape cart.img list
   tape: foreign format-code 4
+  tape: cart.img: another layout, or damage: keep the image; tape_export and tape_salvage can read it
   [7]
   $ cmp cart.img before.img
 
@@ -93,15 +105,19 @@ foreign, since header and table lie there: the first of them that has one is tol
   $ map() { cp whole.img cart.img; put 0 2 11 '\x80'; put 0 2 $1 "$2"; tape cart.img info; }
   $ map 8 '\x01'
   tape: foreign map 2
+  tape: cart.img: another layout, or damage: keep the image; tape_export and tape_salvage can read it
   [7]
   $ map 7 '\x80'
   tape: foreign map 1
+  tape: cart.img: another layout, or damage: keep the image; tape_export and tape_salvage can read it
   [7]
   $ map 5 '\x10'
   tape: foreign map 1
+  tape: cart.img: another layout, or damage: keep the image; tape_export and tape_salvage can read it
   [7]
   $ map 0 '\x01'
   tape: foreign map 0
+  tape: cart.img: another layout, or damage: keep the image; tape_export and tape_salvage can read it
   [7]
 
 Marks behind them are bad sectors: here two of segment 3, and the last one of segment 83. A bit behind the last segment's
@@ -148,6 +164,7 @@ Data that do not begin with the four bytes of the signature are no header: then 
   $ put 1 0 3 '\xAB'
   $ tape cart.img info
   tape: the cartridge is not formatted
+  tape: cart.img: no header can be read: if this cartridge was ever in use, do not format it; run check
   [6]
   $ put 0 0 3 '\xAA'
   $ tape cart.img info | sed -n 1p
@@ -168,12 +185,17 @@ With both copies so there is no header, which `format` mends.
   $ fill 1 FF
   $ for command in info list 'restore 1' scrub; do tape cart.img $command; done
   tape: the cartridge is not formatted
+  tape: cart.img: no header can be read: if this cartridge was ever in use, do not format it; run check
   tape: the cartridge is not formatted
+  tape: cart.img: no header can be read: if this cartridge was ever in use, do not format it; run check
   tape: the cartridge is not formatted
+  tape: cart.img: no header can be read: if this cartridge was ever in use, do not format it; run check
   tape: the cartridge is not formatted
+  tape: cart.img: no header can be read: if this cartridge was ever in use, do not format it; run check
   [6]
   $ echo lost | tape cart.img append N
   tape: the cartridge is not formatted
+  tape: cart.img: no header can be read: if this cartridge was ever in use, do not format it; run check
   [6]
   $ tape cart.img format C
   formatted 84 0
@@ -186,4 +208,5 @@ And a cartridge that has no reference bursts is not formatted, whatever its head
   $ alter 13 '\0'
   $ tape cart.img info
   tape: the cartridge is not formatted
+  tape: cart.img: no header can be read: if this cartridge was ever in use, do not format it; run check
   [6]

@@ -97,15 +97,18 @@ the parity may be lost: there are only three sectors of it.
   $ cp cart.img before.img
   $ tape cart.img list
   tape: segment 2 lost 4 sectors
+  tape: cart.img: the volume table can't be read: keep the image, and see EXIT STATUS 11 in man tape
   [11]
   $ tape cart.img info
   tape: segment 2 lost 4 sectors
+  tape: cart.img: the volume table can't be read: keep the image, and see EXIT STATUS 11 in man tape
   [11]
   $ cmp cart.img before.img
   $ each lose 2 $(seq 0 31)
   32 of 32 done
   $ tape cart.img list
   tape: segment 2 lost 32 sectors
+  tape: cart.img: the volume table can't be read: keep the image, and see EXIT STATUS 11 in man tape
   [11]
   $ cp whole.img cart.img
   $ each lose 2 29 30 31
@@ -195,18 +198,22 @@ With two sectors lost, one of them of data, a set is left only where the other i
   volumes 1
   $ changed 5 31
   tape: the volume table does not agree
+  tape: cart.img: the volume table is corrupt: keep the image, and see EXIT STATUS 8 in man tape
   [8]
   $ changed 0 28
   tape: the volume table does not agree
+  tape: cart.img: the volume table is corrupt: keep the image, and see EXIT STATUS 8 in man tape
   [8]
 
 So it is with more than three.
 
   $ changed 5 29 30 31
   tape: segment 2 lost 4 sectors
+  tape: cart.img: the volume table can't be read: keep the image, and see EXIT STATUS 11 in man tape
   [11]
   $ changed 0 1 2 3
   tape: segment 2 lost 4 sectors
+  tape: cart.img: the volume table can't be read: keep the image, and see EXIT STATUS 11 in man tape
   [11]
 
 A stopped append, and one sector more
@@ -302,6 +309,7 @@ A second one more may be too many.
   2 of 2 done
   $ tape cart.img list
   tape: the volume table does not agree
+  tape: cart.img: the volume table is corrupt: keep the image, and see EXIT STATUS 8 in man tape
   [8]
 
 The header
@@ -336,8 +344,10 @@ sectors are lost. To tell them apart, the second one is that of an older formatt
   label B
   $ lost '0 1 2 3' '4 5 6 7'
   tape: the cartridge is not formatted
+  tape: cart.img: no header can be read: if this cartridge was ever in use, do not format it; run check
   $ lost '28 29 30 31' "$all"
   tape: the cartridge is not formatted
+  tape: cart.img: no header can be read: if this cartridge was ever in use, do not format it; run check
 
 A look writes nothing in a header: what is lost stays lost.
 
@@ -356,6 +366,7 @@ A copy whose sectors can be read, but are no code block, can't be read.
   $ put 0 28 1023 '\x01'
   $ label
   tape: the cartridge is not formatted
+  tape: cart.img: no header can be read: if this cartridge was ever in use, do not format it; run check
 
 With the parity of that byte, C0 C0 01, it is a code block again.
 

@@ -45,6 +45,7 @@ With a fourth one only the bytes of the segments before it are given.
   lost 4 8
   $ tape evening.img restore 1 > part; echo $?
   tape: segment 4 lost 4 sectors
+  tape: evening.img: the output is incomplete: it ends before segment 4; tape_salvage gives what is left
   11
   $ head -c 29696 numbers | cmp - part
 
@@ -91,6 +92,7 @@ A look that writes nothing, and one that writes nothing but the mark.
   lost 4 4
   check 6 0 1
   tape: 0 segments can be mended, 1 not
+  tape: evening.img: damaged; see EXIT STATUS 21 in man tape
   21
   $ tape evening.img protect on
   protected on
@@ -163,6 +165,7 @@ The dump and the map of before stand for those of a medium.
   weak 3 3
   check 4 1 0
   tape: 1 segments can be mended, 0 not
+  tape: tape.img: damaged; see EXIT STATUS 21 in man tape
   21
   $ tape tape.img list
   1 3 3 15 1970-01-01T00:00:00 page

@@ -14,8 +14,9 @@ one of version 1 is made by hand.
   $ : > input
   $ both() {
   >     for image in old new; do
-  >         tape $image.img "$@" < input > $image.said 2>&1
-  >         echo "status $?" >> $image.said
+  >         tape $image.img "$@" < input > both.said 2>&1
+  >         echo "status $?" >> both.said
+  >         sed "s/$image.img/IMAGE/" both.said > $image.said
   >     done
   >     cmp old.said new.said && cat new.said
   > }
@@ -45,6 +46,7 @@ plane, and of version 2 at 64 + 1,027 * 133 + 2 = 136,657. `cmp` counts from 1, 
   $ cp new.img new.before
   $ both list
   tape: the cartridge is not formatted
+  tape: IMAGE: no header can be read: if this cartridge was ever in use, do not format it; run check
   status 6
   $ both defect 4 5
   defect 4 5
@@ -68,9 +70,11 @@ The header is that of the same place, which begins at 8,128 in version 1.
    55 aa 55 aa
   $ both defect 4 6
   tape: the sector is formatted
+  tape: IMAGE: only a sector that was never formatted can be made a defect
   status 14
   $ both defect 84 0
   tape: no such sector
+  tape: IMAGE: 'info' shows how many segments there are; sectors are 0 to 31
   status 15
 
 Volumes
@@ -108,6 +112,7 @@ Their bytes begin in segment 3. Of version 1 they stand at 8,128 + 1,024 * 96 = 
   4
   $ both restore 1 | tail -c +29697
   tape: segment 4 lost 4 sectors
+  tape: IMAGE: the output is incomplete: it ends before segment 4; tape_salvage gives what is left
   status 11
   $ both scrub
   lost 4 4
@@ -142,6 +147,7 @@ Three lost sectors of it are found, and written by each command that mounts, unl
   status 0
   $ both format other
   tape: the cartridge is protected
+  tape: IMAGE: write-protected; 'protect off' clears the mark
   status 5
   $ cp old.img cart.img
   $ states gate 2 32

@@ -207,12 +207,14 @@ how many bytes of the input come before it. The levels of the trains before it s
   1
   1
   tape: input fault in line 3 at byte 4
+  tape: cart.img: the line is not valid; those before it were carried out
   [3]
   $ printf '6\n2\n2\n02\n' | tape cart.img pulses
   1
   1
   0
   tape: input fault in line 4 at byte 6
+  tape: cart.img: the line is not valid; those before it were carried out
   [3]
 
 These lines have three, four and two bytes. The drive refuses the first two trains, which ends no run.
@@ -222,6 +224,7 @@ These lines have three, four and two bytes. The drive refuses the first two trai
   0
   0
   tape: input fault in line 4 at byte 9
+  tape: cart.img: the line is not valid; those before it were carried out
   [3]
 
 No such lines, one after the other:
@@ -230,12 +233,14 @@ No such lines, one after the other:
   $ for line in '' x 256 1000 999999999 1000000000 00 06 ' 6' '6 ' '6 2' +6 -1 -0 6. '6\r' '6\0'; do
   >     fault "$line\n6\n"
   > done 2>&1 | sort | uniq -c | sed 's/^ *//'
+  17 tape: cart.img: the line is not valid; those before it were carried out
   17 tape: input fault in line 1 at byte 0
   [3]
   $ for line in '' x 'end ' ' end' End ends 'end\r'; do
   >     fault "6\n$line\n2\n"
   > done 2>&1 | sort | uniq -c | sed 's/^ *//'
   7 1
+  7 tape: cart.img: the line is not valid; those before it were carried out
   7 tape: input fault in line 2 at byte 2
   [3]
 
@@ -243,26 +248,32 @@ The last line has its newline, too, the line `end` as any other.
 
   $ fault '6'
   tape: input fault in line 1 at byte 0
+  tape: cart.img: the line is not valid; those before it were carried out
   [3]
   $ fault '255'
   tape: input fault in line 1 at byte 0
+  tape: cart.img: the line is not valid; those before it were carried out
   [3]
   $ fault '6\n2'
   1
   tape: input fault in line 2 at byte 2
+  tape: cart.img: the line is not valid; those before it were carried out
   [3]
   $ fault 'end'
   tape: input fault in line 1 at byte 0
+  tape: cart.img: the line is not valid; those before it were carried out
   [3]
   $ fault '6\nend'
   1
   tape: input fault in line 2 at byte 2
+  tape: cart.img: the line is not valid; those before it were carried out
   [3]
 
 A long line is no line, however long.
 
   $ head -c 100000 /dev/zero | tr '\0' 6 | tape cart.img pulses
   tape: input fault in line 1 at byte 0
+  tape: cart.img: the line is not valid; those before it were carried out
   [3]
 
 As many lines as may be
@@ -277,14 +288,17 @@ These are 65,536. The next one is at fault, whatever it is, unless it is `end`.
   65536 0
   $ many '0\n'
   tape: input fault in line 65537 at byte 131072
+  tape: cart.img: the line is not valid; those before it were carried out
   65536 0
   [3]
   $ many 'x\n'
   tape: input fault in line 65537 at byte 131072
+  tape: cart.img: the line is not valid; those before it were carried out
   65536 0
   [3]
   $ many 'end'
   tape: input fault in line 65537 at byte 131072
+  tape: cart.img: the line is not valid; those before it were carried out
   65536 0
   [3]
 
@@ -293,4 +307,5 @@ So an input that never ends is answered.
   $ set +o pipefail
   $ yes 0 | tape cart.img pulses | uniq -c | sed 's/^ *//'
   tape: input fault in line 65537 at byte 131072
+  tape: cart.img: the line is not valid; those before it were carried out
   65536 0

@@ -60,6 +60,7 @@ With a file between nothing is appended, and with a promised length nothing is l
   end
   $ { echo 'append numbers 48894'; head -c 1000 notes/numbers; } | tape cart.img script; echo "${PIPESTATUS[@]}"
   tape: input fault in line 1 at byte 0
+  tape: cart.img: the line is not valid; those before it were carried out
   0 3
   $ tape cart.img list | tail -n 1
   volumes 4
@@ -72,6 +73,7 @@ A restore that fails gives the bytes before the segment that it names, and `tar`
   11 2
   $ grep tape why
   tape: segment 4 lost 4 sectors
+  tape: cart.img: the output is incomplete: it ends before segment 4; tape_salvage gives what is left
   $ cmp part/page notes/page
   $ cmp part/numbers <(head -c 28160 notes/numbers)
 
@@ -98,6 +100,7 @@ of `numbers` from 28,160 on, since 1,536 bytes stand before it in the archive.
   > echo not reached
   > END
   tape: segment 4 lost 4 sectors
+  tape: cart.img: the output is incomplete: it ends before segment 4; tape_salvage gives what is left
   [11]
   $ wc -c < notes.tar
   29696
@@ -116,6 +119,7 @@ A cartridge that is full
   $ tar -c -f notes.tar -C notes page numbers
   $ tape full.img append notes < notes.tar; echo status $?
   tape: full, need 29697 have 29696
+  tape: full.img: there is room for a volume of 29696 bytes
   status 9
   $ recipe << 'END'
   > bytes=$(stat -c %s notes.tar)
@@ -163,8 +167,10 @@ Neither gives the volume.
   > done
   imported 84 16
   tape: segment 3 lost 16 sectors
+  tape: first.img: the output is incomplete: it ends before segment 3; tape_salvage gives what is left
   imported 84 32
   tape: segment 4 lost 30 sectors
+  tape: second.img: the output is incomplete: it ends before segment 4; tape_salvage gives what is left
   [11]
 
 Both together do.
@@ -185,6 +191,7 @@ Both together do.
   weak 3 2
   check 5 1 0
   tape: 1 segments can be mended, 0 not
+  tape: both.img: damaged; see EXIT STATUS 21 in man tape
   status 21
   scrub 5 2 0
 
@@ -200,6 +207,7 @@ Two sectors of the volume were not read, and nothing says so.
   imported 84 0
   $ tape found.img check > said; echo status $?
   tape: 0 segments can be mended, 1 not
+  tape: found.img: damaged; see EXIT STATUS 21 in man tape
   status 21
   $ cat said
   mismatch 3
@@ -218,6 +226,7 @@ Two sectors of the volume were not read, and nothing says so.
   weak 3 2
   check 5 1 0
   tape: 1 segments can be mended, 0 not
+  tape: again.img: damaged; see EXIT STATUS 21 in man tape
   status 21
   $ tape again.img scrub
   scrub 5 2 0

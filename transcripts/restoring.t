@@ -41,9 +41,11 @@ There are as many as `list` shows.
 
   $ tape cart.img restore 0
   tape: no volume 0 of 1
+  tape: cart.img: 'list' shows the volumes
   [10]
   $ tape cart.img restore 2
   tape: no volume 2 of 1
+  tape: cart.img: 'list' shows the volumes
   [10]
 
 Lost sectors
@@ -66,6 +68,7 @@ and nothing behind it.
   lost 4 2
   $ tape cart.img restore 1 > part
   tape: segment 4 lost 4 sectors
+  tape: cart.img: the output is incomplete: it ends before segment 4; tape_salvage gives what is left
   [11]
   $ wc -c < part
   29696
@@ -90,6 +93,7 @@ its bytes are given.
   $ put 4 7 100 X
   $ tape cart.img restore 1 > part
   tape: segment 4 does not agree
+  tape: cart.img: the output is incomplete: it ends before segment 4; try 'scrub deep' on a copy
   [12]
   $ head -c 29696 volume | cmp - part
 
@@ -113,4 +117,5 @@ An output that is full ends it.
 
   $ tape cart.img restore 1 > /dev/full
   tape: output failed
+  tape: cart.img: the output can't be written
   [17]

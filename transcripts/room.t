@@ -5,11 +5,13 @@ On a cartridge of 3 segments per track 81 of the 84 segments are for volumes, an
 
   $ tape cart.img room; echo status $?
   tape: no cartridge
+  tape: cart.img does not exist
   status 4
   $ tape cart.img new 3
   blank 3
   $ tape cart.img room; echo status $?
   tape: the cartridge is not formatted
+  tape: cart.img: no header can be read: if this cartridge was ever in use, do not format it; run check
   status 6
   $ tape cart.img format evening
   formatted 84 0
@@ -17,7 +19,7 @@ On a cartridge of 3 segments per track 81 of the 84 segments are for volumes, an
   room 2405376
   $ tape cart.img room now; echo status $?
   usage: tape IMAGE COMMAND
-  tape: the command is room
+  tape: wrong number of arguments; use: tape IMAGE room
   status 2
 
 A volume takes whole segments. What is left is the number that a refused append names, and an append of so many bytes is none
@@ -29,6 +31,7 @@ that is refused.
   room 2375680
   $ head -c 2375681 /dev/zero | tape cart.img append all; echo status $?
   tape: full, need 2375681 have 2375680
+  tape: cart.img: there is room for a volume of 2375680 bytes
   status 9
   $ tape cart.img room
   room 2375680
@@ -39,6 +42,7 @@ that is refused.
   room 0
   $ tape cart.img append more < /dev/null; echo status $?
   tape: full, need 0 have 0
+  tape: cart.img: there is no room for another volume
   status 9
 
 Bad sectors carry nothing, and neither does a segment with fewer than four that are usable.
@@ -53,6 +57,7 @@ Bad sectors carry nothing, and neither does a segment with fewer than four that 
   room 2372608
   $ head -c 2372609 /dev/zero | tape bad.img append all; echo status $?
   tape: full, need 2372609 have 2372608
+  tape: bad.img: there is room for a volume of 2372608 bytes
   status 9
 
 Once 232 volumes stand there is no room, though segments are free.
@@ -109,4 +114,5 @@ What can't be mounted has no room that could be told.
   $ for sector in 0 1 2; do tape cart.img lose 2 $sector; done > lost
   $ tape cart.img room; echo status $?
   tape: segment 2 lost 4 sectors
+  tape: cart.img: the volume table can't be read: keep the image, and see EXIT STATUS 11 in man tape
   status 11

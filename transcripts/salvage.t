@@ -252,6 +252,7 @@ Where the first header is among the lost, `tar` takes the zero bytes in its plac
   imported 84 4
   $ tape none.img restore 1 | wc -c
   tape: segment 3 lost 4 sectors
+  tape: none.img: the output is incomplete: it ends before segment 3; tape_salvage gives what is left
   0
   $ rm unread.map
   $ seq 98 100 | ddrescuelog --block-size=1024 --size=2752512 --create-mapfile=-+ unread.map
@@ -975,20 +976,20 @@ Files that can't be opened, in their order.
   [20]
   $ tape_salvage --sure . i.dump volume 1
   tape_salvage: cannot open the sure map
-  tape_salvage: . is no regular file
+  tape_salvage: . is not a regular file
   [20]
   $ tape_salvage /dev/zero info
   tape_salvage: cannot open the dump
-  tape_salvage: /dev/zero is no regular file
+  tape_salvage: /dev/zero is not a regular file
   [20]
   $ tape_salvage i.dump info < i.dump
   tape_salvage: cannot open the dump
-  tape_salvage: i.dump is a standard stream of this run
+  tape_salvage: i.dump is also standard input or output of this command
   [20]
   $ cp i.dump copy.dump
   $ tape_salvage copy.dump info > copy.dump
   tape_salvage: cannot open the dump
-  tape_salvage: copy.dump is a standard stream of this run
+  tape_salvage: copy.dump is also standard input or output of this command
   [20]
   $ cp i.map copy.map
   $ tape_salvage --map copy.map i.dump info 2>> copy.map
@@ -1002,18 +1003,18 @@ Files that are only read are locked against a run that would write them, and not
   volumes 1
   $ flock --exclusive i.dump tape_salvage i.dump list
   tape_salvage: cannot open the dump
-  tape_salvage: i.dump is locked by a run that uses it
+  tape_salvage: i.dump is in use by another process, or named twice in this command
   [20]
 
 The map of the output is none of the others, and one file may be two of those.
 
   $ tape_salvage --sure i.dump i.dump volume 1
   tape_salvage: cannot open the sure map
-  tape_salvage: i.dump is locked by a run that uses it
+  tape_salvage: i.dump is in use by another process, or named twice in this command
   [20]
   $ tape_salvage --sure i.map --map i.map i.dump volume 1
   tape_salvage: cannot open the sure map
-  tape_salvage: i.map is locked by a run that uses it
+  tape_salvage: i.map is in use by another process, or named twice in this command
   [20]
   $ echo 4 > four_bad
   $ tape_salvage --missing four_bad --bad four_bad whole.dump info | sed -n '3p'

@@ -21,19 +21,19 @@ The dump is read for its header, its table, and then a segment at a time. What w
   >   cmp -n $(stat -c %s front) front four
   > done
   tape_salvage: input failed
-  tape_salvage: Input/output error
+  tape_salvage: tape.dump: Input/output error
   status 16
   0
   tape_salvage: input failed
-  tape_salvage: Input/output error
+  tape_salvage: tape.dump: Input/output error
   status 16
   0
   tape_salvage: input failed
-  tape_salvage: Input/output error
+  tape_salvage: tape.dump: Input/output error
   status 16
   0
   tape_salvage: input failed
-  tape_salvage: Input/output error
+  tape_salvage: tape.dump: Input/output error
   status 16
   29696
 
@@ -41,7 +41,7 @@ A read that ends before the length that was seen is one that failed; one that co
 
   $ faulty pread64:retval=0:when=3 tape.dump tape.dump volume 1 > front
   tape_salvage: input failed
-  tape_salvage: the file got shorter under the run
+  tape_salvage: tape.dump: the file got shorter under the run
   [16]
   $ faulty pread64:error=EINTR:when=3 tape.dump tape.dump volume 1 | cmp - four
 
@@ -63,7 +63,7 @@ So it is with the other files that are read.
   tape_salvage: input failed
   status 16
   tape_salvage: input failed
-  tape_salvage: Input/output error
+  tape_salvage: header: Input/output error
   status 16
 
 A file that can't be locked, or put on the disk, is not opened.
@@ -74,11 +74,12 @@ A file that can't be locked, or put on the disk, is not opened.
   [20]
   $ faulty fsync:error=EIO tape.map --map tape.map tape.dump list
   tape_salvage: cannot open the map
-  tape_salvage: tape.map or its folder can't be put on the disk: Input/output error
+  tape_salvage: tape.map or its directory can't be synced: Input/output error
   [20]
   $ faulty flock:error=ENOLCK tape.dump tape.dump list
-  1 3 6 100000 1970-01-01T00:00:00 four
-  volumes 1
+  tape_salvage: cannot open the dump
+  tape_salvage: tape.dump can't be locked: No locks available
+  [20]
 
 The map of the output gets longer with each line. Where a call of its file fails the run ends; what stands on standard output then is a
 front.
@@ -106,5 +107,5 @@ Last the map is put on the disk. Where that fails it may lack, so the run has fa
   $ rm one.sure
   $ faulty fsync:error=EIO one.sure --sure one.sure tape.dump volume 1 > front
   tape_salvage: cannot open the sure map
-  tape_salvage: one.sure or its folder can't be put on the disk: Input/output error
+  tape_salvage: one.sure or its directory can't be synced: Input/output error
   [20]

@@ -196,6 +196,7 @@ but no later run finds it.
   end
   $ echo list | tape cart.img script
   tape: segment 2 lost 4 sectors
+  tape: cart.img: the volume table can't be read: keep the image, and see EXIT STATUS 11 in man tape
   [11]
 
 Refused lines
@@ -276,12 +277,14 @@ was replied to before it is done. The bytes of an append count, but they are no 
   $ printf 'append a 3\nabc\nlist\n' | tape cart.img script
   appended 1 3 3 3
   tape: input fault in line 2 at byte 14
+  tape: cart.img: the line is not valid; those before it were carried out
   [3]
   $ printf 'list\nlose 3 0\nlist now\nlose 3 1\n' | tape cart.img script
   1 3 3 3 1970-01-01T00:00:00 a
   volumes 1
   lost 3 0
   tape: input fault in line 3 at byte 14
+  tape: cart.img: the line is not valid; those before it were carried out
   [3]
 
 An append whose bytes end early is none. Nothing is listed of it.
@@ -289,16 +292,19 @@ An append whose bytes end early is none. Nothing is listed of it.
   $ cp whole.img cart.img
   $ printf 'append x 10\n123456789' | tape cart.img script
   tape: input fault in line 1 at byte 0
+  tape: cart.img: the line is not valid; those before it were carried out
   [3]
   $ tape cart.img list
   volumes 0
   $ printf 'list\nappend x 999999999\n123456789' | tape cart.img script
   volumes 0
   tape: input fault in line 2 at byte 5
+  tape: cart.img: the line is not valid; those before it were carried out
   [3]
   $ { printf 'list\nappend x 2405376\n'; cat volume; } | tape cart.img script
   volumes 0
   tape: input fault in line 2 at byte 5
+  tape: cart.img: the line is not valid; those before it were carried out
   [3]
   $ tape cart.img list
   volumes 0
@@ -307,7 +313,7 @@ A line is a line as it stands, with one space between two words. These are none;
 
   $ fault() {
   >     answer=$(printf "$1" | tape cart.img script 2>&1)
-  >     [ "$? $answer" = '3 tape: input fault in line 1 at byte 0' ] || echo "a line: $1 ($answer)"
+  >     [ "$? ${answer%%$'\n'*}" = '3 tape: input fault in line 1 at byte 0' ] || echo "a line: $1 ($answer)"
   > }
   $ for line in '' ' ' List LIST ' list' 'list ' 'list now' info 'end end' 'end ' stop pulses 'format L' scrub. \
   >         restore 'restore 01' 'restore -1' 'restore  1' 'restore 1000000000' 'restore 1 2' \
@@ -324,9 +330,11 @@ So a file of another system, with a carriage return before each newline, is no s
 
   $ printf 'list\r\nend\r\n' | tape cart.img script
   tape: input fault in line 1 at byte 0
+  tape: cart.img: the line is not valid; those before it were carried out
   [3]
   $ printf 'append a 3\r\nabclist\r\n' | tape cart.img script
   tape: input fault in line 1 at byte 0
+  tape: cart.img: the line is not valid; those before it were carried out
   [3]
 
 A name has at most 44 bytes, and the longest line is one of 81.
@@ -337,6 +345,7 @@ A name has at most 44 bytes, and the longest line is one of 81.
   > SCRIPT
   appended 1 0 3 3
   tape: input fault in line 2 at byte 74
+  tape: cart.img: the line is not valid; those before it were carried out
   [3]
 
 No line has 128 bytes before its newline, so no more are read of one without a newline.
@@ -344,12 +353,16 @@ No line has 128 bytes before its newline, so no more are read of one without a n
   $ line() { printf "a%.0s" $(seq $1); echo; }
   $ for bytes in 127 128 129 1000; do line $bytes | (tape cart.img script; wc -c); done
   tape: input fault in line 1 at byte 0
+  tape: cart.img: the line is not valid; those before it were carried out
   0
   tape: input fault in line 1 at byte 0
+  tape: cart.img: the line is not valid; those before it were carried out
   1
   tape: input fault in line 1 at byte 0
+  tape: cart.img: the line is not valid; those before it were carried out
   2
   tape: input fault in line 1 at byte 0
+  tape: cart.img: the line is not valid; those before it were carried out
   873
 
 As many lines as may be
@@ -368,6 +381,7 @@ input that never ends is answered.
   1 end
   $ many 'lose 84 0\n'
   tape: input fault in line 65537 at byte 655360
+  tape: cart.img: the line is not valid; those before it were carried out
   65536 refused place 84 0
   [3]
   $ set +o pipefail
@@ -390,11 +404,13 @@ tool, too, and with a table that agrees with no code block or has lost too much.
   $ lines() { echo list | ("$@"; cat); }
   $ lines tape none.img script
   tape: no cartridge
+  tape: none.img does not exist
   list
   $ tape none.img new 3
   blank 3
   $ lines tape none.img script
   tape: the cartridge is not formatted
+  tape: none.img: no header can be read: if this cartridge was ever in use, do not format it; run check
   list
   $ cp whole.img cart.img
   $ each lose 0 29 30 31
@@ -402,11 +418,13 @@ tool, too, and with a table that agrees with no code block or has lost too much.
   $ put 0 0 4 '\x04'
   $ lines tape cart.img script
   tape: foreign format-code 4
+  tape: cart.img: another layout, or damage: keep the image; tape_export and tape_salvage can read it
   list
   $ cp whole.img cart.img
   $ put 2 1 0 VTBL
   $ lines tape cart.img script
   tape: foreign slot 8
+  tape: cart.img: the volume table has an invalid entry; run check, and see EXIT STATUS 7 in man tape
   list
   $ cp whole.img cart.img
   $ put 2 29 0 '\x01'
@@ -415,20 +433,22 @@ tool, too, and with a table that agrees with no code block or has lost too much.
   $ cp cart.img before.img
   $ lines tape cart.img script
   tape: the volume table does not agree
+  tape: cart.img: the volume table is corrupt: keep the image, and see EXIT STATUS 8 in man tape
   list
   $ cmp before.img cart.img
   $ each lose 2 0 1
   2 of 2 done
   $ lines tape cart.img script
   tape: segment 2 lost 4 sectors
+  tape: cart.img: the volume table can't be read: keep the image, and see EXIT STATUS 11 in man tape
   list
   $ lines tape cart.img script now
   usage: tape IMAGE COMMAND
-  tape: the command is script
+  tape: wrong number of arguments; use: tape IMAGE script
   list
   $ lines tape cart.img Script
   usage: tape IMAGE COMMAND
-  tape: no command 'Script'; tape --help tells them
+  tape: there is no command 'Script'; try 'tape --help'
   list
 
 An input that can't be read ends it, and so does an output that is full. There the line is done whose reply could not be
@@ -437,9 +457,11 @@ written, and none behind it.
   $ cp whole.img cart.img
   $ tape cart.img script < .
   tape: input failed
+  tape: cart.img: the input can't be read
   [16]
   $ printf 'append a 3\nabcappend b 3\nxyz' | tape cart.img script > /dev/full
   tape: output failed
+  tape: cart.img: the output can't be written
   [17]
   $ tape cart.img list
   1 3 3 3 1970-01-01T00:00:00 a

@@ -56,6 +56,7 @@ without a volume are not looked at.
   scrub 7 1 2
   $ tape cart.img restore 1 > part
   tape: segment 4 lost 4 sectors
+  tape: cart.img: the output is incomplete: it ends before segment 4; tape_salvage gives what is left
   [11]
 
 So is a header copy, as long as the other one is there.
@@ -89,7 +90,9 @@ On a protected cartridge nothing is written.
   protected on
   $ tape cart.img scrub
   tape: the cartridge is protected
+  tape: cart.img: write-protected; 'protect off' clears the mark
   [5]
   $ tape none.img scrub
   tape: no cartridge
+  tape: none.img does not exist
   [4]

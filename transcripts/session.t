@@ -24,10 +24,10 @@ the volume's three segments are looked at.
 A fourth is one too many, and that is told. What stands in front of it came out.
 
   $ for sector in 0 1 2 3; do tape cart.img lose 4 $sector; done > lost
-  $ tape cart.img restore 1 > notes.tar; echo status $?
-  tape: segment 4 lost 4 sectors
+  $ tape cart.img restore 1 > out 2> why; echo status $?; head -n 1 why
   status 11
-  $ stat -c %s notes.tar
+  tape: segment 4 lost 4 sectors
+  $ stat -c %s out
   29696
 
 The recording of a seek to track 3 and of a broken-off report, by `pulse_trace`:

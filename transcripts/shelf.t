@@ -108,6 +108,7 @@ All that the report calls weak or wrong. Each image is copied before.
   tapes/042.img.before
   $ tape tapes/017.img.before check > said
   tape: 1 segments can be mended, 0 not
+  tape: tapes/017.img.before: damaged; see EXIT STATUS 21 in man tape
   [21]
   $ for image in 017 042; do tape tapes/$image.img restore 1; tape tapes/$image.img restore 2; done
   a page of one
@@ -137,6 +138,7 @@ A protected cartridge isn't mended.
   protected on
   $ shelf.sh mend tapes/protected.img
   tape: the cartridge is protected
+  tape: tapes/protected.img: write-protected; 'protect off' clears the mark
   [5]
   $ rm tapes/protected.img*
 
@@ -147,6 +149,7 @@ The volume table
   wrong 2 9
   check 6 1 0
   tape: 1 segments can be mended, 0 not
+  tape: tapes/150.img: damaged; see EXIT STATUS 21 in man tape
   status 21
   $ cp tapes/150.img tapes/150.img.before
   $ tape tapes/150.img lose 2 9
@@ -181,6 +184,7 @@ With a volume that can't be read the copy ends before it, and the others are giv
   blank 3
   formatted 84 0
   copied 1 14
+  tape_dup: tapes/200.img: segment 4 can't be read: parity recovers at most 3 lost sectors
   status 32
   $ tape tapes/200.img list | sed '$d' | tail -n +2 > volumes
   $ while read -r number _ _ _ date name; do
@@ -191,6 +195,7 @@ With a volume that can't be read the copy ends before it, and the others are giv
   >   fi
   > done < volumes
   tape: segment 4 lost 4 sectors
+  tape: tapes/200.img: the output is incomplete: it ends before segment 4; tape_salvage gives what is left
   two: status 11, 0 bytes came
   appended 2 16 4 4
   $ tape tapes/200-new.img list

@@ -27,6 +27,7 @@ that prints.
   $ cmp cart.img kept.img
   $ tape cart.img list >&-
   tape: output failed
+  tape: cart.img: the output can't be written
   [17]
   $ cmp cart.img kept.img
   $ tape cart.img list 2>&-
@@ -35,6 +36,7 @@ that prints.
   $ cmp cart.img kept.img
   $ tape cart.img list <&- >&-
   tape: output failed
+  tape: cart.img: the output can't be written
   [17]
   $ cmp cart.img kept.img
   $ tape cart.img list <&- 2>&-
@@ -54,6 +56,7 @@ A command that reads.
   $ cmp cart.img kept.img
   $ printf '6\n2\n' | tape cart.img pulses >&-
   tape: output failed
+  tape: cart.img: the output can't be written
   [17]
   $ cmp cart.img kept.img
   $ printf '6\n' | tape cart.img pulses 2>&-
@@ -70,12 +73,12 @@ Words of no command.
 
   $ tape cart.img rewind 1 <&-
   usage: tape IMAGE COMMAND
-  tape: no command 'rewind'; tape --help tells them
+  tape: there is no command 'rewind'; try 'tape --help'
   [2]
   $ cmp cart.img kept.img
   $ tape cart.img rewind 1 >&-
   usage: tape IMAGE COMMAND
-  tape: no command 'rewind'; tape --help tells them
+  tape: there is no command 'rewind'; try 'tape --help'
   [2]
   $ cmp cart.img kept.img
   $ tape cart.img rewind 1 2>&-
@@ -111,6 +114,7 @@ that is referenced.
   1
   $ tape cart.img pulses < .
   tape: input failed
+  tape: cart.img: the input can't be read
   [16]
   $ cmp cart.img kept.img
 
@@ -118,6 +122,7 @@ A full device, in place of the output and of standard error.
 
   $ tape cart.img list > /dev/full
   tape: output failed
+  tape: cart.img: the output can't be written
   [17]
   $ cmp cart.img kept.img
   $ tape cart.img rewind 2> /dev/full
@@ -133,10 +138,12 @@ A pipe that nobody reads: the program is not ended by its signal.
   $ exec 8<>broken 9>broken 8<&-
   $ tape cart.img list >&9
   tape: output failed
+  tape: cart.img: the output can't be written
   [17]
   $ cmp cart.img kept.img
   $ echo 6 | tape cart.img pulses >&9
   tape: output failed
+  tape: cart.img: the output can't be written
   [17]
   $ cmp cart.img kept.img
   $ tape cart.img rewind 2>&9
@@ -150,30 +157,30 @@ nothing written.
   $ mkdir folder
   $ tape folder list
   tape: cannot open the image
-  tape: folder is no regular file
+  tape: folder is not a regular file
   [20]
   $ tape folder/ list
   tape: cannot open the image
-  tape: folder/ is no regular file
+  tape: folder/ is not a regular file
   [20]
   $ tape /dev/null list
   tape: cannot open the image
-  tape: /dev/null is no regular file
+  tape: /dev/null is not a regular file
   [20]
   $ tape /dev/zero new 3
   tape: cannot open the image
-  tape: /dev/zero is no regular file
+  tape: /dev/zero is not a regular file
   [20]
   $ mkfifo pipe
   $ exec 9<>pipe
   $ echo first >&9
   $ tape pipe list
   tape: cannot open the image
-  tape: pipe is no regular file
+  tape: pipe is not a regular file
   [20]
   $ tape pipe new 3
   tape: cannot open the image
-  tape: pipe is no regular file
+  tape: pipe is not a regular file
   [20]
   $ echo second >&9
   $ head -n 2 <&9
@@ -183,12 +190,12 @@ nothing written.
   $ ln -s folder folder.link
   $ tape folder.link list
   tape: cannot open the image
-  tape: folder.link is no regular file
+  tape: folder.link is not a regular file
   [20]
   $ ln -s pipe pipe.link
   $ tape pipe.link list
   tape: cannot open the image
-  tape: pipe.link is no regular file
+  tape: pipe.link is not a regular file
   [20]
   $ ls folder
 
@@ -206,11 +213,11 @@ one, and a link to itself.
   $ cmp cart.img kept.img
   $ tape $(printf 'a%.0s' $(seq 300)) new 3
   tape: cannot open the image
-  tape: the file can't be opened: File name too long
+  tape: aaaaaaaaaaaaaaaaaaaaaaaaaaaaaaaaaaaaaaaaaaaaaaaaaaaaaaaaaaaaaaaaaaaaaaaaaaaaaaaaaaaaaaaaaaaaaaaaaaaaaaaaaaaaaaaaaaaaaaaaaaaaaaaaaaaaaaaaaaaaaaaaaaaaaaaaaaaaaaaaaaaaaaaaaaaaaaaaaaaaaaaaaaaaaaaaaaaaaaaaaaaaaaaaaaaaaaaaaaaaaaaaaaaaaaaaaaaaaaaaaaaaaaaaaaaaaaaaaaaaaaaaaaaaaaaaaaaaaaaaaaaaaaaaaaa... can't be opened: File name too long
   [20]
   $ tape '' new 3
   tape: cannot open the image
-  tape: the file can't be made: No such file or directory
+  tape:  can't be made: No such file or directory
   [20]
   $ ln -s loop loop
   $ tape loop new 3
@@ -218,7 +225,7 @@ one, and a link to itself.
   tape: loop can't be opened: Too many levels of symbolic links
   [20]
   $ tape none/cart.img list 2>&-
-  [20]
+  [4]
 
 An image that is a symbolic link: the file that it names is the image, and is created where there is none.
 
@@ -246,11 +253,11 @@ printed a level.
   1
   $ tape cart.img list
   tape: cannot open the image
-  tape: cart.img is locked by a run that uses it
+  tape: cart.img is in use by another process, or named twice in this command
   [20]
   $ tape cart.link new 3
   tape: cannot open the image
-  tape: cart.link is locked by a run that uses it
+  tape: cart.link is in use by another process, or named twice in this command
   [20]
   $ cmp cart.img kept.img
   $ echo end >&8
@@ -266,7 +273,7 @@ none.
 
   $ tape cart.img list >> cart.img
   tape: cannot open the image
-  tape: cart.img is a standard stream of this run
+  tape: cart.img is also standard input or output of this command
   [20]
   $ cmp cart.img kept.img
   $ tape cart.link list 2>> cart.img
@@ -276,11 +283,11 @@ none.
   $ cmp cart.img kept.img
   $ tape cart.img pulses < cart.img
   tape: cannot open the image
-  tape: cart.img is a standard stream of this run
+  tape: cart.img is also standard input or output of this command
   [20]
   $ tape cart.img protect on 1<> cart.img
   tape: cannot open the image
-  tape: cart.img is a standard stream of this run
+  tape: cart.img is also standard input or output of this command
   [20]
   $ cmp cart.img kept.img
 
@@ -288,11 +295,37 @@ A file that can grow no further, as on a full disk: the tape fails, and the cart
 
   $ (trap '' XFSZ; ulimit -f 1000; exec tape full.img new 3)
   tape: the tape failed
-  tape: File too large
+  tape: full.img: File too large
   [18]
   $ tape full.img list
   tape: no cartridge
+  tape: full.img: it holds no cartridge, or a 'new' or an import was interrupted; check the path
   [4]
   $ tape full.img new 3
   blank 3
   $ cmp full.img open.img
+
+An image that gets shorter under a run
+--------------------------------------
+
+Somebody cuts the image off while a command that changes it runs, and no read of the command comes to what was cut off. The command
+ends as if the image had failed, since what it wrote may be gone. Here the input comes once the image is locked and was cut off.
+
+  $ tape cut.img new 3
+  blank 3
+  $ tape cut.img format L
+  formatted 84 0
+  $ late() {
+  >     for turn in $(seq 1000); do
+  >         grep -q ":$(stat -c %i cut.img) 0 EOF" /proc/locks && break
+  >         sleep 0.02
+  >     done
+  >     sleep 1
+  >     truncate -s 200000 cut.img
+  >     echo text
+  > }
+  $ late | tape cut.img append page
+  appended 1 5 3 3
+  tape: the tape failed
+  tape: cut.img: the file got shorter under the run
+  [18]

@@ -12,10 +12,12 @@ made to fail, by `strace`; where there is none, or it may trace nothing, this pa
 Opening
 -------
 
-An image is synced as it is opened, whatever the command is, and so is its folder where it is empty. Here the file is new.
+An image is synced as it is opened, whatever the command is, and so is its folder where it is empty, as a new one is.
 
+  $ : > cart.img
   $ syncs cart.img list
   tape: no cartridge
+  tape: cart.img: it holds no cartridge, or a 'new' or an import was interrupted; check the path
   fsync tapes 0
   fsync cart.img 0
   [4]
@@ -32,13 +34,14 @@ It is still empty. A new cartridge gets two lengths, each of which is synced who
   fdatasync cart.img 0
   $ syncs cart.img info
   tape: the cartridge is not formatted
+  tape: cart.img: no header can be read: if this cartridge was ever in use, do not format it; run check
   fsync cart.img 0
   [6]
   $ syncs cart.img pulses < /dev/null
   fsync cart.img 0
   $ syncs cart.img rewind
   usage: tape IMAGE COMMAND
-  tape: no command 'rewind'; tape --help tells them
+  tape: there is no command 'rewind'; try 'tape --help'
   [2]
 
 The length stays as it is when a mark is set, so that asks for the data alone; and where the mark stands nothing is written.
@@ -54,9 +57,8 @@ The length stays as it is when a mark is set, so that asks for the data alone; a
 A file is opened as one that is there, and made only where there is none: by a call that takes no other for it. It gets the
 mode 0666 less the mask of the run. So its folder, and no other, is opened by the name that the path has for it.
 
-  $ strace --quiet=all -o ../calls -P made.img -P . -e trace=openat,readlink tape made.img list
-  tape: no cartridge
-  [4]
+  $ strace --quiet=all -o ../calls -P made.img -P . -e trace=openat,readlink tape made.img new 3
+  blank 3
   $ sed -n 's/AT_FDCWD, //; s/, 0x[0-9a-f]*, [0-9]*)/)/; s/ *= .*//p' ../calls
   openat("made.img", O_RDWR|O_NOCTTY|O_CLOEXEC)
   readlink("made.img")
@@ -69,11 +71,14 @@ The entry of a file is in the folder of what a link to it names.
 
   $ mkdir away
   $ ln -s away/later.img later.link
-  $ syncs later.link list
-  tape: no cartridge
+  $ syncs later.link new 3
+  blank 3
   fsync away 0
   fsync later.img 0
-  [4]
+  fsync later.img 0
+  fsync later.img 0
+  fdatasync later.img 0
+  fdatasync later.img 0
   $ syncs ./away/../cart.img protect off
   protected off
   fsync cart.img 0
@@ -105,6 +110,7 @@ Before the folder of a new image is synced: the next run finds it empty, and syn
   0
   $ syncs cart.img list
   tape: no cartridge
+  tape: cart.img: it holds no cartridge, or a 'new' or an import was interrupted; check the path
   fsync tapes 0
   fsync cart.img 0
   [4]
@@ -119,15 +125,15 @@ An image whose sync fails is not opened, and nothing of it is written.
 
   $ faulty fsync:error=EIO cart.img protect on
   tape: cannot open the image
-  tape: cart.img or its folder can't be put on the disk: Input/output error
+  tape: cart.img or its directory can't be synced: Input/output error
   [20]
   $ faulty fsync:error=ENOSPC cart.img list
   tape: cannot open the image
-  tape: cart.img or its folder can't be put on the disk: No space left on device
+  tape: cart.img or its directory can't be synced: No space left on device
   [20]
   $ faulty fsync:error=EINVAL cart.img list
   tape: cannot open the image
-  tape: cart.img or its folder can't be put on the disk: Invalid argument
+  tape: cart.img or its directory can't be synced: Invalid argument
   [20]
   $ cmp cart.img before.img
 
@@ -142,9 +148,9 @@ Nor is an empty one whose folder can't be synced, or can't be opened for that.
   4 0
   4 tape: cannot open the image
   1 tape: cart.img can't be opened: Input/output error
-  1 tape: cart.img or its folder can't be put on the disk: Input/output error
-  1 tape: cart.img or its folder can't be put on the disk: Invalid argument
-  1 tape: cart.img or its folder can't be put on the disk: Permission denied
+  1 tape: cart.img or its directory can't be synced: Input/output error
+  1 tape: cart.img or its directory can't be synced: Invalid argument
+  1 tape: cart.img or its directory can't be synced: Permission denied
   $ faulty readlink:error=ENOMEM cart.img new 3
   tape: no memory
   [19]
@@ -163,32 +169,92 @@ A sync behind that is a call of the tape. What was written can still be read; th
 
   $ faulty fdatasync:error=EIO cart.img protect on
   tape: the tape failed
-  tape: Input/output error
+  tape: cart.img: Input/output error
   [18]
   $ faulty fsync:error=EIO:when=2 cart.img new 3
   tape: the tape failed
-  tape: Input/output error
+  tape: cart.img: Input/output error
   [18]
   $ tape cart.img new 3
   blank 3
   $ cmp cart.img before.img
 
-An image that can't be locked is not opened, but where the system knows no locks for it.
+An image that can't be locked is not opened, whatever the cause. So it is where the system knows no locks for it, as on some
+shares over the network: without one two runs would write over one another.
 
-  $ for error in EIO EBADF EINVAL ENOMEM EAGAIN; do
+  $ for error in EIO EBADF EINVAL ENOMEM EAGAIN EOPNOTSUPP ENOSYS ENOLCK; do
   >     faulty flock:error=$error cart.img protect on
   > done 2>&1 | sort | uniq -c | sed 's/^ *//'
-  5 tape: cannot open the image
+  8 tape: cannot open the image
   1 tape: cart.img can't be locked: Bad file descriptor
   1 tape: cart.img can't be locked: Cannot allocate memory
+  1 tape: cart.img can't be locked: Function not implemented
   1 tape: cart.img can't be locked: Input/output error
   1 tape: cart.img can't be locked: Invalid argument
-  1 tape: cart.img is locked by a run that uses it
+  1 tape: cart.img can't be locked: No locks available
+  1 tape: cart.img can't be locked: Operation not supported
+  1 tape: cart.img is in use by another process, or named twice in this command
   $ cmp cart.img before.img
-  $ for error in EOPNOTSUPP ENOSYS ENOLCK; do
-  >     faulty flock:error=$error cart.img info
-  > done 2>&1 | uniq -c | sed 's/^ *//'
-  3 tape: the cartridge is not formatted
+
+So do the other programs that write or read a file.
+
+  $ refused() { strace --quiet=all -o ../calls -e inject=flock:error=ENOLCK "$@" 2>&1 | sed -n '$s/.*: //p'; }
+  $ refused tape_dup cart.img copy.img
+  No locks available
+  $ refused tape_import import.img < /dev/null
+  No locks available
+  $ refused tape_export cart.img
+  No locks available
+  $ refused tape_salvage before.img info
+  No locks available
+  $ cmp cart.img before.img
+  $ rm -f copy.img import.img
+
+A letter is no image, and stays as it was whichever look at it fails: at its kind, its length, its name or its bytes. What
+can't be looked at may be anything.
+
+  $ echo 'Dear Sir, the cartridges that you sent ..' > letter
+  $ cp letter letter.before
+  $ for look in pread64 fstat statx newfstatat; do
+  >     for when in 1 2 3 4 5 6; do
+  >         strace --quiet=all -o ../calls -P letter -P "$PWD/letter" -e inject=$look:error=EIO:when=$when tape letter new 3
+  >         [ $? = 20 ] || echo "$look $when: $?"
+  >         cmp letter letter.before
+  >     done
+  > done > ../said 2>&1
+  $ grep -v '^tape: ' ../said
+  [1]
+  $ sort -u ../said
+  tape: cannot open the image
+  tape: letter can't be looked at: Input/output error
+  tape: letter can't be opened: Input/output error
+  tape: letter is not a tape image; for a dump use tape_import or tape_salvage
+  tape: letter was replaced or removed while it was opened; try again
+
+The target of a copy is looked at in the same way.
+
+  $ strace --quiet=all -o ../calls -P letter -P "$PWD/letter" -e inject=pread64:error=EIO tape_dup cart.img letter 2>&1 |
+  >     sed -n '$s/.*: //p'
+  Input/output error
+  $ cmp letter letter.before
+
+A file may be a standard stream of the run, so none is opened where a stream can't be looked at, as in a system whose `/proc`
+is not there. None is made then, either.
+
+  $ unseen() { strace --quiet=all -o ../calls -P /proc/self/fd/$1 -e inject=statx,newfstatat:error=EACCES "${@:2}"; }
+  $ for stream in 0 1 2; do
+  >     unseen $stream tape cart.img list
+  >     unseen $stream tape fresh.img new 3
+  >     unseen $stream tape_export cart.img
+  >     unseen $stream tape_import fresh.img < /dev/null
+  > done 2>&1 | sed 's/.*\(the standard streams\)/\1/' | sort | uniq -c | sed 's/^ *//'
+  6 tape: cannot open the image
+  3 tape_export: cannot open the image
+  3 tape_import: cannot open the image
+  12 the standard streams can't be looked at: Permission denied
+  $ cmp cart.img before.img
+  $ test -e fresh.img
+  [1]
 
 One of which the system tells neither kind nor length is none.
 
@@ -202,13 +268,13 @@ is made is not taken for that.
 
   $ faulty statx:error=EIO:when=3 cart.img info
   tape: cannot open the image
-  tape: cart.img names another file by now, or none
+  tape: cart.img was replaced or removed while it was opened; try again
   [20]
   $ faulty statx:error=ENOENT:when=3 cart.img info
   tape: cannot open the image
-  tape: cart.img names another file by now, or none
+  tape: cart.img was replaced or removed while it was opened; try again
   [20]
-  $ faulty openat:error=ENOENT:when=1 cart.img info
+  $ faulty openat:error=ENOENT:when=1 cart.img new 3
   tape: cannot open the image
   tape: cart.img can't be made: File exists
   [20]
@@ -220,13 +286,13 @@ A pipe is not opened, since its name tells its kind; and where the name told not
   $ mkfifo cart.img
   $ faulty statx:error=EIO:when=9 cart.img list
   tape: cannot open the image
-  tape: cart.img is no regular file
+  tape: cart.img is not a regular file
   [20]
   $ sed 's/(.*//' ../calls
   statx
   $ faulty statx:error=EIO:when=1 cart.img list
   tape: cannot open the image
-  tape: cart.img is no regular file
+  tape: cart.img is not a regular file
   [20]
   $ sed 's/(.*//' ../calls
   statx
@@ -240,9 +306,11 @@ A call that a signal interrupts is made again.
 
   $ faulty fsync:error=EINTR:when=1 cart.img info
   tape: the cartridge is not formatted
+  tape: cart.img: no header can be read: if this cartridge was ever in use, do not format it; run check
   [6]
   $ faulty flock:error=EINTR:when=1 cart.img info
   tape: the cartridge is not formatted
+  tape: cart.img: no header can be read: if this cartridge was ever in use, do not format it; run check
   [6]
 
 A read-only file system
@@ -254,33 +322,35 @@ nothing to put on the disk then; another failure is one here, too.
   $ read_only() { faulty openat:error=EROFS:when=1 "$@"; }
   $ read_only cart.img info
   tape: the cartridge is not formatted
+  tape: cart.img: no header can be read: if this cartridge was ever in use, do not format it; run check
   [6]
   $ read_only cart.img protect on
   tape: the tape failed
-  tape: the image is opened for reading alone
+  tape: cart.img: the file is read-only
   [18]
   $ read_only cart.img new 3
   tape: the tape failed
-  tape: the image is opened for reading alone
+  tape: cart.img: the file is read-only
   [18]
   $ cmp cart.img before.img
 
 A read that fails there is told as one; an error that has no name here by its number.
 
-  $ faulty 'openat:error=EROFS:when=1 pread64:error=EIO' cart.img info
+  $ faulty 'openat:error=EROFS:when=1 pread64:error=EIO:when=3' cart.img info
   tape: the tape failed
-  tape: Input/output error
+  tape: cart.img: Input/output error
   [18]
-  $ faulty 'openat:error=EROFS:when=1 pread64:error=EPROTO' cart.img info
+  $ faulty 'openat:error=EROFS:when=1 pread64:error=EPROTO:when=3' cart.img info
   tape: the tape failed
-  tape: error 71 of the system
+  tape: cart.img: system error 71
   [18]
   $ faulty 'openat:error=EROFS:when=1 fsync:error=EINVAL' cart.img info
   tape: the cartridge is not formatted
+  tape: cart.img: no header can be read: if this cartridge was ever in use, do not format it; run check
   [6]
   $ faulty 'openat:error=EROFS:when=1 fsync:error=EIO' cart.img info
   tape: cannot open the image
-  tape: cart.img or its folder can't be put on the disk: Input/output error
+  tape: cart.img or its directory can't be synced: Input/output error
   [20]
   $ faulty openat:error=EROFS cart.img info
   tape: cannot open the image
@@ -294,7 +364,7 @@ A read that fails there is told as one; an error that has no name here by its nu
   $ : > cart.img
   $ faulty 'openat:error=EROFS:when=1 fsync:error=EINVAL' cart.img new 3
   tape: the tape failed
-  tape: the image is opened for reading alone
+  tape: cart.img: the file is read-only
   [18]
 
 An upgrade
@@ -337,8 +407,8 @@ So it is where a call fails.
   >     cmp cart.img new.img
   > done 2>&1 | sort | uniq -c | sed 's/^ *//'
   12 1 3 3 10 1970-01-01T00:00:00 a
-  4 tape: Input/output error
-  2 tape: No space left on device
+  4 tape: cart.img: Input/output error
+  2 tape: cart.img: No space left on device
   6 tape: the tape failed
   12 volumes 1
 

@@ -151,16 +151,22 @@ end of the one before; its end is not before its start, nor above the last segme
   > }
   $ slots 0 2 3
   tape: foreign range 0
+  tape: cart.img: the volume table has an invalid entry; run check, and see EXIT STATUS 7 in man tape
   $ slots 0 5 4 1 6 6
   tape: foreign range 0
+  tape: cart.img: the volume table has an invalid entry; run check, and see EXIT STATUS 7 in man tape
   $ slots 0 3 84
   tape: foreign range 0
+  tape: cart.img: the volume table has an invalid entry; run check, and see EXIT STATUS 7 in man tape
   $ slots 0 5 6 1 3 4
   tape: foreign range 1
+  tape: cart.img: the volume table has an invalid entry; run check, and see EXIT STATUS 7 in man tape
   $ slots 0 3 5 1 5 6
   tape: foreign range 1
+  tape: cart.img: the volume table has an invalid entry; run check, and see EXIT STATUS 7 in man tape
   $ slots 0 3 3 1 84 84
   tape: foreign range 1
+  tape: cart.img: the volume table has an invalid entry; run check, and see EXIT STATUS 7 in man tape
   $ slots 0 3 3 1 4 83
   1 3 3 10 1994-03-01T12:00:00 a
   2 4 83 10 1994-03-01T12:00:00 a
@@ -172,20 +178,28 @@ A slot behind a free one is none.
 
   $ slots 1 3 3
   tape: foreign slot 1
+  tape: cart.img: the volume table has an invalid entry; run check, and see EXIT STATUS 7 in man tape
   $ slots 0 3 3 2 4 4
   tape: foreign slot 2
+  tape: cart.img: the volume table has an invalid entry; run check, and see EXIT STATUS 7 in man tape
   $ slots 6 2 2 7 2 2
   tape: foreign slot 6
+  tape: cart.img: the volume table has an invalid entry; run check, and see EXIT STATUS 7 in man tape
   $ slots 0 2 2 2 4 4
   tape: foreign range 0
+  tape: cart.img: the volume table has an invalid entry; run check, and see EXIT STATUS 7 in man tape
   $ slots 231 3 3
   tape: foreign slot 231
+  tape: cart.img: the volume table has an invalid entry; run check, and see EXIT STATUS 7 in man tape
   $ slots 16 3 3
   tape: foreign slot 16
+  tape: cart.img: the volume table has an invalid entry; run check, and see EXIT STATUS 7 in man tape
   $ slots 8 3 3 16 3 3
   tape: foreign slot 8
+  tape: cart.img: the volume table has an invalid entry; run check, and see EXIT STATUS 7 in man tape
   $ tape cart.img info
   tape: foreign slot 8
+  tape: cart.img: the volume table has an invalid entry; run check, and see EXIT STATUS 7 in man tape
   [7]
 
 A signature is `VTBL` or zero bytes, and nothing else. Behind zero bytes any others may stand.
@@ -193,6 +207,7 @@ A signature is `VTBL` or zero bytes, and nothing else. Behind zero bytes any oth
   $ put 2 0 3 L
   $ tape cart.img list
   tape: foreign slot 0
+  tape: cart.img: the volume table has an invalid entry; run check, and see EXIT STATUS 7 in man tape
   [7]
   $ cp empty.img cart.img
   $ put 2 0 4 '\x03'

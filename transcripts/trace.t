@@ -95,18 +95,23 @@ A line that is no line of a recording ends the run; the dialogue of the lines be
 was still open.
 
   $ printf '0\nx\n' | pulse_trace
+  pulse_trace: line 2 is not valid
   [3]
   $ printf '0\n9000\nx\n' | pulse_trace
   0 1 Reset
+  pulse_trace: line 3 is not valid
   [3]
 
 So does a time that falls, a level that is neither 0 nor 1, and a last line without its newline.
 
   $ printf '100\n99\n' | pulse_trace
+  pulse_trace: line 2 is not valid
   [3]
   $ printf '0 2\n' | pulse_trace
+  pulse_trace: line 1 is not valid
   [3]
   $ printf '0' | pulse_trace
+  pulse_trace: line 1 is not valid
   [3]
 
 An empty recording has an empty dialogue.
@@ -116,23 +121,35 @@ An empty recording has an empty dialogue.
 Words that the program does not take end it before anything is read.
 
   $ pulse_trace --gap 0 < /dev/null
+  usage: pulse_trace [--gap MICROSECONDS] (1 to 1000000)
   [2]
   $ pulse_trace --gap 1000001 < /dev/null
+  usage: pulse_trace [--gap MICROSECONDS] (1 to 1000000)
   [2]
   $ pulse_trace --gap x < /dev/null
+  usage: pulse_trace [--gap MICROSECONDS] (1 to 1000000)
   [2]
   $ pulse_trace more < /dev/null
+  usage: pulse_trace [--gap MICROSECONDS] (1 to 1000000)
   [2]
   $ pulse_trace --help < /dev/null
-  [2]
+  usage: pulse_trace [--gap MICROSECONDS]
+  
+  Reads a recording of a drive cable from standard input, and writes the dialogue
+  in it to standard output. A pulse that comes later than the gap, 1000 unless one
+  from 1 to 1000000 is given, begins the next train. Exit status 0: done; 2:
+  usage; 3: a line is not valid; the others in 'man pulse_trace'.
   $ pulse_trace --gap= < /dev/null
+  usage: pulse_trace [--gap MICROSECONDS] (1 to 1000000)
   [2]
 
 Nor is a word that is no UTF-8 text one of them.
 
   $ echo 0 | pulse_trace $'\xFF'
+  usage: pulse_trace [--gap MICROSECONDS] (1 to 1000000)
   [2]
   $ echo 0 | pulse_trace --gap $'5\xFF'
+  usage: pulse_trace [--gap MICROSECONDS] (1 to 1000000)
   [2]
 
 Closed streams and broken ones
@@ -142,11 +159,14 @@ A closed input is empty, a closed output fails, and no text is printed for a sta
 
   $ pulse_trace <&-
   $ echo 0 | pulse_trace >&-
+  pulse_trace: standard output can't be written
   [17]
   $ pulse_trace <&- >&-
   $ pulse_trace more <&- >&- 2>&-
   [2]
   $ echo 0 | pulse_trace > /dev/full
+  pulse_trace: standard output can't be written
   [17]
   $ pulse_trace < .
+  pulse_trace: standard input can't be read
   [16]

@@ -105,6 +105,7 @@ The cartridge isn't mounted, and may be protected. This one was never formatted,
    5a 00 5a
   $ tape cart.img list
   tape: the cartridge is not formatted
+  tape: cart.img: no header can be read: if this cartridge was ever in use, do not format it; run check
   [6]
   $ tape cart.img defect 0 30
   defect 0 30
@@ -124,6 +125,7 @@ Here the volume table is lost, with other sectors. A lost sector is lost behind 
   upgraded from 1
   $ tape cart.img list
   tape: segment 2 lost 4 sectors
+  tape: cart.img: the volume table can't be read: keep the image, and see EXIT STATUS 11 in man tape
   [11]
   $ states gate 2 64
    c1 c1 c1 c1 5a 5a 5a 5a 5a 5a 5a 5a 5a 5a 5a 5a
@@ -171,24 +173,25 @@ What is refused, and what fails
 
   $ tape none.img upgrade
   tape: no cartridge
+  tape: none.img does not exist
   [4]
-  $ wc -c < none.img
-  0
+  $ ls none.img 2> why
+  [2]
   $ echo 'Dear Sir, the cartridges that you sent ..' > letter
   $ cp letter before
   $ tape letter upgrade
   tape: cannot open the image
-  tape: letter holds something else
+  tape: letter is not a tape image; for a dump use tape_import or tape_salvage
   [20]
   $ cmp letter before
   $ cp old.img cart.img
   $ tape cart.img upgrade 2
   usage: tape IMAGE COMMAND
-  tape: the command is upgrade
+  tape: wrong number of arguments; use: tape IMAGE upgrade
   [2]
   $ tape cart.img upgrades
   usage: tape IMAGE COMMAND
-  tape: no command 'upgrades'; tape --help tells them
+  tape: there is no command 'upgrades'; try 'tape --help'
   [2]
   $ cmp old.img cart.img
 
@@ -196,7 +199,7 @@ Where there is no room for the copy the tape fails, and the image is of version 
 
   $ (trap '' XFSZ; ulimit -f 3000; exec tape cart.img upgrade)
   tape: the tape failed
-  tape: File too large
+  tape: cart.img: File too large
   [18]
   $ version
   1
@@ -208,5 +211,6 @@ With an output that is full the image is upgraded all the same.
 
   $ tape cart.img upgrade > /dev/full
   tape: output failed
+  tape: cart.img: the output can't be written
   [17]
   $ cmp new.img cart.img

@@ -11,44 +11,44 @@ why, and the status 2. Nothing else happens: neither the cartridge nor the input
   $ cp cart.img before.img
   $ tape
   usage: tape IMAGE COMMAND
-  tape: a command is missing; tape --help tells them
+  tape: the command is missing; try 'tape --help'
   [2]
   $ tape cart.img
   usage: tape IMAGE COMMAND
-  tape: a command is missing; tape --help tells them
+  tape: the command is missing; try 'tape --help'
   [2]
   $ tape cart.img list now
   usage: tape IMAGE COMMAND
-  tape: the command is list
+  tape: wrong number of arguments; use: tape IMAGE list
   [2]
   $ { tape cart.img pulses now; cat; } << INPUT
   > 6
   > INPUT
   usage: tape IMAGE COMMAND
-  tape: the command is pulses
+  tape: wrong number of arguments; use: tape IMAGE pulses
   6
   $ echo 'a volume' | (tape cart.img append; cat)
   usage: tape IMAGE COMMAND
-  tape: the command is append NAME [DATE]
+  tape: wrong number of arguments; use: tape IMAGE append NAME [DATE]
   a volume
 
 A word that is no UTF-8 text is no word of a command, and no path of an image either: no file is created.
 
   $ tape cart.img $'\xFF'
   usage: tape IMAGE COMMAND
-  tape: a word is no UTF-8 text
+  tape: an argument is not valid UTF-8, which a path must be too
   [2]
   $ tape cart.img append $'a\xC3' < before.img
   usage: tape IMAGE COMMAND
-  tape: a word is no UTF-8 text
+  tape: an argument is not valid UTF-8, which a path must be too
   [2]
   $ tape $'new\xFF.img' new 3
   usage: tape IMAGE COMMAND
-  tape: a word is no UTF-8 text
+  tape: an argument is not valid UTF-8, which a path must be too
   [2]
   $ tape new.img new $'3\xFF'
   usage: tape IMAGE COMMAND
-  tape: a word is no UTF-8 text
+  tape: an argument is not valid UTF-8, which a path must be too
   [2]
   $ tape cart.img $'\xFF' 2>&-
   [2]
@@ -63,7 +63,7 @@ In what follows such words are told by `no`, which prints them if they should be
 
 Words count as they stand: case counts, nothing is trimmed, and an empty word is a word.
 
-  $ for word in '' ' ' List LIST 'list ' ' list' lists inf upgraded end help -h --help; do no "$word"; done
+  $ for word in '' ' ' List LIST 'list ' ' list' lists inf upgraded end -h --help; do no "$word"; done
   $ no list ''
   $ no '' list
   $ no info info
@@ -126,12 +126,15 @@ The greatest number is a number, though there is no such sector and no such volu
 
   $ tape cart.img lose 999999999 999999999
   tape: no such sector
+  tape: cart.img: 'info' shows how many segments there are; sectors are 0 to 31
   [15]
   $ tape cart.img defect 999999999 0
   tape: no such sector
+  tape: cart.img: 'info' shows how many segments there are; sectors are 0 to 31
   [15]
   $ tape cart.img restore 999999999
   tape: no volume 999999999 of 0
+  tape: cart.img: 'list' shows the volumes
   [10]
 
 The mark is `on` or `off`.
