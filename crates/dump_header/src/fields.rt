@@ -2,9 +2,12 @@
 
 ghost use Rattle.std.specs.Prelude.{◌≡◌, ◌≤◌, length, None, Some, IfOk, MatchResult};
 ghost use Rattle.std.specs.Option.{option_map};
-ghost use Rattle.dump_spec.specs.Header.{format_code, first_data, last_data, header_refusal};
-ghost use Rattle.dump_header.specs.Shown.{ShowsFields, as_told, told_of};
+ghost use Rattle.dump_spec.specs.Answers.{refused_field};
+ghost use Rattle.dump_spec.specs.Header.{format_code, first_copy, second_copy, first_data, last_data};
+ghost use Rattle.dump_spec.specs.Header.{header_refusal, with_code};
+ghost use Rattle.dump_header.specs.Shown.{ShowsFields, told_of};
 
+use dump_spec::RefusedField;
 use qic_base::{ForeignField, Name, Sector, read_u16, read_u32};
 
 /// The fields of a header whose values are taken (Linux ftape headers).
@@ -12,6 +15,9 @@ use qic_base::{ForeignField, Name, Sector, read_u16, read_u32};
 pub struct DumpHeader {
     /// 2 to 6.
     pub format_code: u8,
+    /// The segments of its two copies, as they stand.
+    pub first_copy: u32,
+    pub second_copy: u32,
     /// The segment of the volume table, not above the last.
     pub first_data: u16,
     /// The last data segment.
@@ -26,13 +32,6 @@ pub struct DumpHeader {
     pub label: Name,
 }
 
-/// A field of a header, and the value in it that is not taken.
-#[derive(Clone, Copy)]
-pub struct ForeignValue {
-    pub field: ForeignField,
-    pub value: u32,
-}
-
 /// The format code whose header has numbers of four bytes for segments.
 const WIDE: u8 = 6;
 
@@ -45,6 +44,28 @@ pub fn read_code(area: &[Sector]) -> u8
     ensures { result ≡ format_code area.now }
 {
     area[0][4]
+}
+
+fn read_first_copy(area: &[Sector]) -> u32
+    requires { length area.now ≡ 29 }
+    ensures { result ≡ first_copy area.now }
+{
+    if read_code(area) == WIDE {
+        read_u32(&area[0], 234)
+    } else {
+        u32::from(read_u16(&area[0], 6))
+    }
+}
+
+fn read_second_copy(area: &[Sector]) -> u32
+    requires { length area.now ≡ 29 }
+    ensures { result ≡ second_copy area.now }
+{
+    if read_code(area) == WIDE {
+        read_u32(&area[0], 238)
+    } else {
+        u32::from(read_u16(&area[0], 8))
+    }
 }
 
 fn read_first(area: &[Sector]) -> u32
@@ -71,13 +92,13 @@ fn read_last(area: &[Sector]) -> u32
 
 /// The first field whose value is not taken: a format code that is none of 2 to 6, a first data segment above the last, or a
 /// last one above 65,535.
-fn foreign_value(area: &[Sector]) -> Option<ForeignValue>
+fn foreign_value(area: &[Sector]) -> Option<RefusedField>
     requires { length area.now ≡ 29 }
-    ensures { result ≡ option_map as_told (header_refusal area.now) }
+    ensures { result ≡ option_map refused_field (header_refusal area.now) }
 {
     let code = read_code(area);
     if !(2..=6).contains(&code) {
-        return Some(ForeignValue {
+        return Some(RefusedField {
             field: ForeignField::FormatCode,
             value: u32::from(code),
         });
@@ -85,13 +106,13 @@ fn foreign_value(area: &[Sector]) -> Option<ForeignValue>
     let first = read_first(area);
     let last = read_last(area);
     if first > last {
-        return Some(ForeignValue {
+        return Some(RefusedField {
             field: ForeignField::FirstData,
             value: first,
         });
     }
     if last > LAST_SEGMENT {
-        return Some(ForeignValue {
+        return Some(RefusedField {
             field: ForeignField::LastData,
             value: last,
         });
@@ -109,6 +130,8 @@ fn read_fields(area: &[Sector]) -> DumpHeader
     label.copy_from_slice(&sector[30..74]);
     DumpHeader {
         format_code: read_code(area),
+        first_copy: read_first_copy(area),
+        second_copy: read_second_copy(area),
         first_data: read_first(area) as u16,
         last_data: read_last(area) as u16,
         format_date: read_u32(sector, 14),
@@ -118,9 +141,19 @@ fn read_fields(area: &[Sector]) -> DumpHeader
     }
 }
 
+/// Puts a format code that is given in place of that of a header's data, 29 sectors.
+pub fn put_code(area: &mut [Sector], code: Option<u8>)
+    requires { length area.old ≡ 29 }
+    ensures { area.new ≡ with_code code area.old }
+{
+    if let Some(code) = code {
+        area[0][4] = code;
+    }
+}
+
 /// Reads the fields of a header's data, 29 sectors. Its signature is not looked at. An error is the first field whose value is
 /// not taken.
-pub fn decode(area: &[Sector]) -> Result<DumpHeader, ForeignValue>
+pub fn decode(area: &[Sector]) -> Result<DumpHeader, RefusedField>
     requires { length area.now ≡ 29 }
     ensures shown { IfOk result (ShowsFields area.now) }
     ensures refused { MatchResult result (λ _. header_refusal area.now ≡ None)

@@ -10,9 +10,9 @@ use Rattle.cartridge_spec.specs.Says.{unreadable_count}
 use Rattle.cartridge_spec.specs.Shape.{sector_at, is_unreadable}
 use Rattle.qic_base.specs.declared.tape.SectorView.{SectorView}
 use Rattle.silent_locate.specs.Deep.{Deep}
-use Rattle.dump_laws.proofs.Determined.{one_case}
+use Rattle.dump_laws.proofs.Determined.{one_case, not-read}
 use Rattle.dump_laws.specs.CellsAlone.{SureIsTheBlock}
-use Rattle.dump_spec.specs.Given.{CountAs, OneBlock, IsCase, Given, given_by, given_from, given_area, is_sure, all_sure}
+use Rattle.dump_spec.specs.Given.{CountAs, OneBlock, IsCase, Given, given_by, given_from, given_area, is_sure, all_sure, are_zero}
 use Rattle.dump_spec.specs.declared.form.Form.TheVariants as forms
 use Rattle.dump_spec.specs.declared.mark.Mark.TheVariants.{Sure, Unchecked}
 
@@ -62,16 +62,16 @@ at-most-three : (n : ℕ) → n ≤ 2 → n ≤ 3
 at-most-three n few = omega arith
 
 all-count : (zero_lost : Bool) (cells counted : List SectorView) (block : List (List ℕ)) → Deep cells block None →
-    CountAs forms.Sectors zero_lost cells counted → counted ≡ cells
-all-count true cells counted block deep (inl (reads, e)) = e
-all-count true cells counted block deep (inr (none, e)) = absurd (none block None deep)
-all-count false cells counted block deep e = e
+    (zero_lost ≡ true → are_zero block ≡ false) → CountAs forms.Sectors zero_lost cells counted → counted ≡ cells
+all-count true cells counted block deep other (inl (reads, e)) = e
+all-count true cells counted block deep other (inr (none, e)) = absurd (not-read cells (block, None, deep, other refl) none)
+all-count false cells counted block deep other e = e
 
 pub sure_is_the_block : SureIsTheBlock
-sure_is_the_block zero_lost cells given block few code agrees gives =
+sure_is_the_block zero_lost cells given block few code agrees other gives =
     let lost : ℕ = unreadable_count cells in
     let deep : Deep cells block None = record { few = at-most-three lost few; code = code; agrees = agrees } in
-    let counted = all-count zero_lost cells gives.counted block deep gives.counts in
+    let counted = all-count zero_lost cells gives.counted block deep other gives.counts in
     let here : IsCase forms.Sectors cells gives.case = subst (λ x. IsCase forms.Sectors x gives.case) counted gives.is_case in
     let case_is = one_case forms.Sectors cells gives.case (OneBlock block) here deep in
     let are : given ≡ given_by (OneBlock block) cells = gives.are ∙ ap (given_by gives.case) counted ∙ ap (λ x. given_by x cells) case_is in

@@ -1,11 +1,11 @@
 -- What is told of a segment depends on its cells alone, as facts (QIC-80-MC: at most one code block agrees with sectors of which
 -- at most three are lost).
-use Rattle.std.specs.Prelude.{◌≡◌, ℕ, ◌≤◌, Bool, List, take, true, ◌-◌, length}
+use Rattle.std.specs.Prelude.{◌≡◌, ℕ, ◌≤◌, Bool, List, take, true, false, ◌-◌, length}
 use Rattle.cartridge_spec.specs.Code.{IsCodeBlock}
 use Rattle.cartridge_spec.specs.Says.{Agrees, unreadable_count}
 use Rattle.qic_base.specs.declared.tape.SectorView.{SectorView}
 use Rattle.dump_spec.specs.Check.{Finding, Finds}
-use Rattle.dump_spec.specs.Given.{CountAs, Case, IsCase, Given, Gives, given_area, all_sure}
+use Rattle.dump_spec.specs.Given.{CountAs, Case, IsCase, Given, Gives, Confirms, given_area, all_sure, are_zero}
 use Rattle.dump_spec.specs.declared.form.Form.{Form}
 use Rattle.dump_spec.specs.declared.form.Form.TheVariants as forms
 
@@ -28,9 +28,17 @@ OneFinding =
     (form : Form) (zero_lost : Bool) (mask : ℕ) (cells : List SectorView) (finding other : Finding) →
     Finds form zero_lost mask cells finding → Finds form zero_lost mask cells other → finding ≡ other
 
--- a code block that agrees with the cells, of which at most two are lost, is what the segment gives
+-- the same of whether the code confirms it
+abbrev pub OneConfirming : Type 0
+OneConfirming =
+    (form : Form) (zero_lost : Bool) (cells : List SectorView) (confirmed other : Bool) →
+    Confirms form zero_lost cells confirmed → Confirms form zero_lost cells other → confirmed ≡ other
+
+-- A code block that agrees with the cells, of which at most two are lost, is what the segment gives; where sectors of zero bytes
+-- may be lost ones, if it has another byte.
 abbrev pub SureIsTheBlock : Type 0
 SureIsTheBlock =
     (zero_lost : Bool) (cells : List SectorView) (given : List Given) (block : List (List ℕ)) →
-    unreadable_count cells ≤ 2 → IsCodeBlock block → Agrees cells block → Gives forms.Sectors zero_lost cells given →
+    unreadable_count cells ≤ 2 → IsCodeBlock block → Agrees cells block → (zero_lost ≡ true → are_zero block ≡ false) →
+    Gives forms.Sectors zero_lost cells given →
     (given_area given ≡ take (length block - 3) block) × (all_sure given ≡ true)

@@ -5,7 +5,9 @@ use Rattle.std.specs.List.{range_with_len}
 use Rattle.cartridge_laws.specs.HeaderTerms.{fault_as}
 use Rattle.qic_base.specs.Field.{filled, little_endian_bytes}
 use Rattle.qic_base.specs.declared.foreign.ForeignField.TheVariants.{FormatCode, FirstData, LastData}
-use Rattle.dump_spec.specs.Header.{names_sector, list_entries, format_code, first_data, last_data, label, header_refusal}
+use Rattle.dump_spec.specs.Header.{names_sector, list_entries, format_code, first_data, last_data, label, header_refusal, with_code}
+use Rattle.dump_spec.specs.Header.{first_copy, second_copy}
+use Rattle.dump_spec.specs.Answers.{stray_at}
 use Rattle.dump_spec.specs.Lists.{bad_sectors}
 use Rattle.dump_spec.specs.Masks.{dump_mask}
 
@@ -74,6 +76,18 @@ WideLast = last_data (header_bytes 6 6 39 7 70000) ≡ 70000
 
 abbrev pub LabelOf4 : Type 0
 LabelOf4 = label header_of_4 ≡ filled (codes "holiday pictures")
+
+-- the segments of its copies: in two bytes each, and of the format code 6 in four
+abbrev pub CopiesOf4 : Type 0
+CopiesOf4 = first_copy header_of_4 ∷ second_copy header_of_4 ∷ first_copy (header_bytes 6 6 39 7 70000) ∷ [] ≡ 3 ∷ 5 ∷ 0 ∷ []
+
+-- a format code that is given stands in place of the header's
+abbrev pub CodeGiven : Type 0
+CodeGiven = map (λ code. format_code (with_code code header_of_4)) (None ∷ Some 6 ∷ []) ≡ 4 ∷ 6 ∷ []
+
+-- the header was found in neither of its segments
+abbrev pub StrayFrom4 : Type 0
+StrayFrom4 = map (stray_at header_of_4) (3 ∷ 5 ∷ 2 ∷ []) ≡ None ∷ None ∷ Some (record { segment = 2; first = 3; second = 5 }) ∷ []
 
 -- ---- what is refused
 

@@ -1,16 +1,19 @@
 -- Worked values of what is printed of a dump, as facts: a cartridge of 3 segments per track with the label `evening` and a volume
 -- `page` of 15 bytes, of which sectors of segment 3 are lost. None comes of evaluating a definition.
-use Rattle.std.specs.Prelude.{ℕ, ◌≡◌, [], ◌∷◌, ◌++◌, codes, replicate, map, false, Some, None}
-use Rattle.std.specs.List.{range_with_len}
+use Rattle.std.specs.Prelude.{ℕ, ◌≡◌, List, [], ◌∷◌, ◌++◌, codes, replicate, map, true, false, Some, None}
+use Rattle.std.specs.List.{flat_map, range_with_len}
 use Rattle.cartridge_spec.specs.Says.{whole_mask}
-use Rattle.qic_base.specs.Field.{filled}
+use Rattle.qic_base.specs.Field.{filled, little_endian_bytes}
 use Rattle.qic_base.specs.declared.foreign.ForeignField.TheVariants.{FormatCode}
-use Rattle.dump_spec.specs.Answers.{output_status}
+use Rattle.dump_spec.specs.Answers.{output_status, check_status}
 use Rattle.dump_spec.specs.Check.{Well, Weak, Wrong, Mismatch, LostSectors, check_text, finding_line}
-use Rattle.dump_spec.specs.Lines.{info_text, list_text, status_line}
+use Rattle.dump_spec.specs.Lines.{info_text, list_text, status_line, exit_status}
 use Rattle.dump_spec.specs.HeaderPlace.{FoundHeader}
 use Rattle.dump_spec.specs.Output.{sure_text}
+use Rattle.dump_spec.specs.SlotLines.{slots_text, byte_text, small_text}
+use Rattle.dump_spec.specs.Slots.{LostSlot, Passed, slot_by}
 use Rattle.dump_spec.specs.Volumes.{Volume}
+use Rattle.dump_spec.specs.Warnings.{warning_lines, no_warnings}
 use Rattle.dump_spec.specs.declared.form.Form.TheVariants as forms
 use Rattle.dump_spec.specs.declared.mark.Mark.TheVariants.{Sure, Unchecked, Filled}
 use Rattle.dump_spec.specs.declared.status.InputText.TheVariants as texts
@@ -27,12 +30,16 @@ evening = record {
 }
 
 abbrev pub InfoOfExport : Type 0
-InfoOfExport = info_text forms.Sectors 2752512 84 (Some evening) 0 1
-    ≡ codes "form sectors\nbytes 2752512\nsegments 84\nheader 0\nlabel evening\nformatted 1970-01-01T00:00:00\n"
+InfoOfExport = info_text forms.Sectors 2752512 84 0 (Some evening) 0 (Some 1)
+    ≡ codes "form sectors\nbytes 2752512\nsegments 84\nfirst 0\nheader 0\nlabel evening\nformatted 1970-01-01T00:00:00\n"
     ++ codes "format-code 2\ntracks 28\nsegments-per-track 3\nfirst-data 2\nlast-data 83\nbad-sectors 0\nvolumes 1\n"
 
 abbrev pub InfoWithoutHeader : Type 0
-InfoWithoutHeader = info_text forms.Data 0 0 None 0 0 ≡ codes "form data\nbytes 0\nsegments 0\nheader none\nvolumes 0\n"
+InfoWithoutHeader = info_text forms.Data 88064 3 3 None 0 (Some 1)
+    ≡ codes "form data\nbytes 88064\nsegments 3\nfirst 3\nheader none\nvolumes 1\n"
+
+abbrev pub InfoWithoutTable : Type 0
+InfoWithoutTable = info_text forms.Data 0 0 2 None 0 None ≡ codes "form data\nbytes 0\nsegments 0\nfirst 2\nheader none\nvolumes none\n"
 
 -- ---- list
 
@@ -49,18 +56,50 @@ ListOfExport = list_text (λ segment. whole_mask) 2 (page_in 3 3 ∷ []) ≡ cod
 abbrev pub ListOfBadRange : Type 0
 ListOfBadRange = list_text (λ segment. whole_mask) 2 (page_in 2 3 ∷ []) ≡ codes "1 ? ? 0 1970-01-01T00:00:00 page\nvolumes 1\n"
 
+-- ---- slots
+
+-- a slot of 128 bytes
+abbrev pub monday : List ℕ
+monday = codes "VTBL" ++ 4 ∷ 0 ∷ 5 ∷ 0 ∷ filled (codes "monday") ++ replicate 4 0 ++ 0x20 ∷ 1 ∷ replicate 38 0
+    ++ little_endian_bytes 8 50000 ++ replicate 24 0
+
+abbrev pub SlotOfMonday : Type 0
+SlotOfMonday = slots_text false 3 (slot_by monday ∷ [])
+    ≡ codes "1 VTBL 4 5 1970-01-01T00:00:00 0x20 1 0 50000 0x00 6d6f6e646179" ++ flat_map (λ i. codes "20") (range_with_len 0 38)
+    ++ codes "\nslots 1\n"
+
+-- of other slots the kind is told, and of a volume in the table's segment no range
+abbrev pub SlotsPassed : Type 0
+SlotsPassed = slots_text false 4 (LostSlot true ∷ Passed (codes "XTBL" ++ replicate 124 0) ∷ slot_by monday ∷ [])
+    ≡ codes "1 ?\n2 XTBL\n3 VTBL ? ? 1970-01-01T00:00:00 0x20 1 0 50000 0x00 6d6f6e646179"
+    ++ flat_map (λ i. codes "20") (range_with_len 0 38) ++ codes "\nslots 3\n"
+
+abbrev pub CapitalsInBytes : Type 0
+CapitalsInBytes = byte_text 0xAF ++ small_text (0xAF ∷ []) ≡ codes "0xAFaf"
+
 -- ---- check
 
 -- three sectors of segment 3 are lost, of 84 segments
 abbrev pub CheckOfExport : Type 0
-CheckOfExport = check_text (range_with_len 0 84) (replicate 3 Well ++ Weak 3 ∷ replicate 80 Well) ≡ codes "weak 3 3\ncheck 84 1 0\n"
+CheckOfExport = check_text (range_with_len 0 84) (replicate 3 Well ++ Weak 3 ∷ replicate 80 Well) [] 0 ≡ codes "weak 3 3\ncheck 84 1 0\n"
 
 -- four are
 abbrev pub CheckOfLost : Type 0
-CheckOfLost = check_text (range_with_len 0 84) (replicate 3 Well ++ LostSectors 4 ∷ replicate 80 Well) ≡ codes "lost 3 4\ncheck 84 0 1\n"
+CheckOfLost = check_text (range_with_len 0 84) (replicate 3 Well ++ LostSectors 4 ∷ replicate 80 Well) [] 0
+    ≡ codes "lost 3 4\ncheck 84 0 1\n"
+
+-- two that lack are bad, and are not counted as looked at
+abbrev pub CheckOfLacking : Type 0
+CheckOfLacking = check_text (0 ∷ 1 ∷ []) (Well ∷ LostSectors 4 ∷ []) (codes "missing 2 3\n") 2
+    ≡ codes "lost 1 4\nmissing 2 3\ncheck 2 0 3\n"
+
+-- a dump of no bytes is not well
+abbrev pub CheckStatuses : Type 0
+CheckStatuses = check_status 0 0 0 ∷ check_status 1 0 0 ∷ check_status 1 0 1 ∷ []
+    ≡ status.Damaged 0 0 ∷ status.Done ∷ status.Damaged 0 1 ∷ []
 
 abbrev pub CheckOfNone : Type 0
-CheckOfNone = check_text (range_with_len 0 84) (replicate 84 Well) ≡ codes "check 84 0 0\n"
+CheckOfNone = check_text (range_with_len 0 84) (replicate 84 Well) [] 0 ≡ codes "check 84 0 0\n"
 
 abbrev pub WrongLine : Type 0
 WrongLine = finding_line 3 (Wrong 17) ≡ codes "wrong 3 17\n"
@@ -98,6 +137,31 @@ abbrev pub CountsOfPage : Type 0
 CountsOfPage = map (λ marks. status_line (output_status marks)) (replicate 15 Unchecked ∷ replicate 15 Filled ∷ replicate 15 Sure ∷ [] ∷ [])
     ≡ codes "tape_salvage: 0 bytes read, 15 unchecked, 0 filled\n" ∷ codes "tape_salvage: 0 bytes read, 0 unchecked, 15 filled\n" ∷ [] ∷
     [] ∷ []
+
+-- the warnings, in their order
+abbrev pub WarningLines : Type 0
+WarningLines = warning_lines (record {
+  refused = Some (record { field = FormatCode; value = 7 });
+  stray = Some (record { segment = 2; first = 3; second = 5 });
+  empty = true;
+  unknown = true;
+  unsure = true;
+  lost = 8;
+})
+    ≡ codes "tape_salvage: foreign format-code 7\ntape_salvage: the header in segment 2 is that of segments 3 and 5\n"
+    ++ codes "tape_salvage: the dump is empty\ntape_salvage: the bad sectors are not known\n"
+    ++ codes "tape_salvage: the volume table is not sure\ntape_salvage: 8 slots of the volume table are lost\n"
+
+abbrev pub NoWarningLines : Type 0
+NoWarningLines = warning_lines no_warnings ≡ []
+
+-- of lost slots a warning tells; there is no table
+abbrev pub TableLines : Type 0
+TableLines = map status_line (status.SlotsLost ∷ status.NoHeader ∷ status.NoTable ∷ [])
+    ≡ [] ∷ codes "tape_salvage: no header\n" ∷ codes "tape_salvage: no volume table\n" ∷ []
+
+abbrev pub TableExits : Type 0
+TableExits = map exit_status (status.SlotsLost ∷ status.NoHeader ∷ status.NoTable ∷ []) ≡ 1 ∷ 6 ∷ 6 ∷ []
 
 abbrev pub MendLine : Type 0
 MendLine = status_line (status.Damaged 1 0) ≡ codes "tape_salvage: 1 segments can be mended, 0 not\n"

@@ -1,10 +1,10 @@
 -- Worked values of the marks of what a segment gives, as facts. None comes of evaluating a definition.
-use Rattle.std.specs.Prelude.{ℕ, ◌≡◌, List, [], ◌∷◌, map}
+use Rattle.std.specs.Prelude.{ℕ, ◌≡◌, List, [], ◌∷◌, ◌++◌, map, true, false}
 use Rattle.qic_base.specs.Cartridge.{zero_sector}
 use Rattle.qic_base.specs.declared.tape.SectorView.{SectorView}
 use Rattle.qic_base.specs.declared.tape.SectorView.TheVariants.{Lost, Holds}
-use Rattle.dump_spec.specs.Given.{Given, Case, OneBlock, OneWrong, Contradicts, AsRead, given_by, without_zeros}
-use Rattle.dump_spec.specs.Output.{mark_byte}
+use Rattle.dump_spec.specs.Given.{Given, Case, OneBlock, OneWrong, Contradicts, AsRead, given_by, without_zeros, is_confirmed}
+use Rattle.dump_spec.specs.Output.{mark_byte, given_with}
 use Rattle.dump_spec.specs.declared.mark.Mark.TheVariants.{Sure, Filled}
 
 -- the marks of what cells give, as a map writes them
@@ -37,6 +37,18 @@ abbrev pub ReadAndContradicted : Type 0
 ReadAndContradicted = marks_by Contradicts (Holds (1 ∷ []) ∷ Lost ∷ Holds (3 ∷ []) ∷ Holds (4 ∷ []) ∷ Holds (5 ∷ []) ∷ Holds (6 ∷ []) ∷
     Holds (7 ∷ []) ∷ [])
     ≡ 47 ∷ 45 ∷ 47 ∷ 47 ∷ []
+
+-- so it is where nothing says that sectors stand at their places; the lost one stays `-`
+abbrev pub DoubtedMarks : Type 0
+DoubtedMarks = map (λ g. mark_byte g.mark) (given_with false (given_by AsRead (Lost ∷ Holds (2 ∷ []) ∷ Lost ∷ Lost ∷ Lost ∷ Holds (6 ∷ []) ∷
+    Holds (7 ∷ []) ∷ [])))
+    ≡ 45 ∷ 47 ∷ 45 ∷ 45 ∷ []
+
+-- the code confirms a block of which at most two are lost, and one with a wrong sector
+abbrev pub ConfirmedCases : Type 0
+ConfirmedCases = map (is_confirmed (OneBlock block)) (0 ∷ 2 ∷ 3 ∷ []) ++ map (λ case. is_confirmed case 1) (OneWrong block 1 ∷ Contradicts ∷
+    AsRead ∷ [])
+    ≡ true ∷ true ∷ false ∷ true ∷ false ∷ false ∷ []
 
 abbrev pub filler : Given
 filler = record { bytes = zero_sector; mark = Filled }

@@ -1,11 +1,11 @@
 //! Worked values of the definitions of dumps; the functions do nothing, and evaluation proves their contracts.
 
 ghost use Rattle.dump_laws.specs.WorkedLists.{OneNumber, TwoNumbers, LeadingZeros, TenDigits, ThreeWords, Remark, LateRemark, LongRemark, LongLine, MissingLines, BackwardsSpan, HighSegment, BadLines, Sector32, FaultBehindFaultless, LoneReturn, MissingInside};
-ghost use Rattle.dump_laws.specs.WorkedHeaders.{Entry258, Entry258Alone, EntryOfAll, EntryOfAllAlone, Bit23Alone, ListEnds, CutEntry, MaskOf8, MaskOf9, MaskOf10, ListedAlone, CodeOf4, FirstOf4, LastOf4, WideFirst, WideLast, Code7, FirstAboveLast, LastTooHigh, LabelOf4};
-ghost use Rattle.dump_laws.specs.WorkedPieces.{WholePieces, MissingPieces, DataPieces, NoHeaderInFront, HeaderInFront, AskedFirst, TwoSegmentsLeft, TwoSegmentsOfData, CellsOfWhole, CutCells, CellsOfData, CellsOfMissing};
-ghost use Rattle.dump_laws.specs.WorkedMarks.{TwoSolved, ThreeSolved, WrongAndLost, ReadAndContradicted, FourLost, ZerosAreLost};
-ghost use Rattle.dump_laws.specs.WorkedVolumes.{PassedSlots, EndedSlots, CountedRanges, EmptyRange, BadRangeInFront, GoodRange, SizeCounts, CompressedCarries, TooLargeCarries, BadHasNone};
-ghost use Rattle.dump_laws.specs.WorkedLines.{InfoOfExport, InfoWithoutHeader, ListOfExport, ListOfBadRange, CheckOfExport, CheckOfLost, CheckOfNone, WrongLine, MismatchLine, SureMapOfPage, SureMapOfFilled, SureMapOfRuns, SureMapOfNothing, CountsOfPage, ForeignLine, MapFaultLine, MissingFaultLine, BadFaultLine, TooManyLine, NoVolumeLine, BadRangeLine, MendLine};
+ghost use Rattle.dump_laws.specs.WorkedHeaders.{Entry258, Entry258Alone, EntryOfAll, EntryOfAllAlone, Bit23Alone, ListEnds, CutEntry, MaskOf8, MaskOf9, MaskOf10, ListedAlone, CodeOf4, FirstOf4, LastOf4, WideFirst, WideLast, Code7, FirstAboveLast, LastTooHigh, LabelOf4, CopiesOf4, CodeGiven, StrayFrom4};
+ghost use Rattle.dump_laws.specs.WorkedPieces.{WholePieces, MissingPieces, DataPieces, NoHeaderInFront, HeaderInFront, AskedFirst, FirstBySlot, NoFirstBySlot, FirstByHeader, FirstByHeaderOfSectors, RefusedFirst, CodedFirst, MissingAtEnd, MissingAround, MissingRuns, MissingCount, TwoSegmentsLeft, TwoSegmentsOfData, CellsOfWhole, CutCells, CellsOfData, CellsOfMissing};
+ghost use Rattle.dump_laws.specs.WorkedMarks.{TwoSolved, ThreeSolved, WrongAndLost, ReadAndContradicted, DoubtedMarks, ConfirmedCases, FourLost, ZerosAreLost};
+ghost use Rattle.dump_laws.specs.WorkedVolumes.{PassedSlots, EndedSlots, LostSlots, LastZeros, TablesOfSlots, CountedRanges, EmptyRange, RangeBehindLost, RangesBesideLost, BadRangeInFront, GoodRange, SizeCounts, CompressedCarries, TooLargeCarries, BadHasNone};
+ghost use Rattle.dump_laws.specs.WorkedLines.{InfoOfExport, InfoWithoutHeader, InfoWithoutTable, ListOfExport, ListOfBadRange, SlotOfMonday, SlotsPassed, CapitalsInBytes, CheckOfExport, CheckOfLost, CheckOfNone, CheckOfLacking, CheckStatuses, WrongLine, MismatchLine, SureMapOfPage, SureMapOfFilled, SureMapOfRuns, SureMapOfNothing, CountsOfPage, WarningLines, NoWarningLines, TableLines, TableExits, ForeignLine, MapFaultLine, MissingFaultLine, BadFaultLine, TooManyLine, NoVolumeLine, BadRangeLine, MendLine};
 
 /// The lists of segments and of bad sectors.
 pub fn lists()
@@ -44,6 +44,9 @@ pub fn headers()
     ensures code_of_4 { CodeOf4 }
     ensures first_of_4 { FirstOf4 }
     ensures last_of_4 { LastOf4 }
+    ensures copies_of_4 { CopiesOf4 }
+    ensures code_given { CodeGiven }
+    ensures stray { StrayFrom4 }
     ensures wide_first { WideFirst }
     ensures wide_last { WideLast }
     ensures code_7 { Code7 }
@@ -60,6 +63,16 @@ pub fn pieces()
     ensures no_header { NoHeaderInFront }
     ensures header { HeaderInFront }
     ensures asked { AskedFirst }
+    ensures by_slot { FirstBySlot }
+    ensures not_by_slot { NoFirstBySlot }
+    ensures by_header { FirstByHeader }
+    ensures by_header_of_sectors { FirstByHeaderOfSectors }
+    ensures refused { RefusedFirst }
+    ensures coded { CodedFirst }
+    ensures missing_at_end { MissingAtEnd }
+    ensures missing_around { MissingAround }
+    ensures missing_runs { MissingRuns }
+    ensures missing_count { MissingCount }
     ensures two_left { TwoSegmentsLeft }
     ensures two_of_data { TwoSegmentsOfData }
     ensures cells { CellsOfWhole }
@@ -74,6 +87,8 @@ pub fn marks()
     ensures three_solved { ThreeSolved }
     ensures wrong { WrongAndLost }
     ensures contradicted { ReadAndContradicted }
+    ensures doubted { DoubtedMarks }
+    ensures confirmed { ConfirmedCases }
     ensures four_lost { FourLost }
     ensures zeros { ZerosAreLost }
 {}
@@ -82,8 +97,13 @@ pub fn marks()
 pub fn volumes()
     ensures passed { PassedSlots }
     ensures ended { EndedSlots }
+    ensures lost { LostSlots }
+    ensures last_zeros { LastZeros }
+    ensures tables { TablesOfSlots }
     ensures counted { CountedRanges }
     ensures empty { EmptyRange }
+    ensures behind_lost { RangeBehindLost }
+    ensures beside_lost { RangesBesideLost }
     ensures in_front { BadRangeInFront }
     ensures good { GoodRange }
     ensures size { SizeCounts }
@@ -96,11 +116,17 @@ pub fn volumes()
 pub fn lines()
     ensures info { InfoOfExport }
     ensures info_without { InfoWithoutHeader }
+    ensures info_without_table { InfoWithoutTable }
     ensures list { ListOfExport }
     ensures bad_range { ListOfBadRange }
+    ensures slots { SlotOfMonday }
+    ensures slots_passed { SlotsPassed }
+    ensures capitals { CapitalsInBytes }
     ensures check { CheckOfExport }
     ensures check_lost { CheckOfLost }
     ensures check_none { CheckOfNone }
+    ensures check_lacking { CheckOfLacking }
+    ensures check_statuses { CheckStatuses }
     ensures wrong { WrongLine }
     ensures mismatch { MismatchLine }
     ensures sure_page { SureMapOfPage }
@@ -108,6 +134,10 @@ pub fn lines()
     ensures sure_runs { SureMapOfRuns }
     ensures sure_nothing { SureMapOfNothing }
     ensures counts { CountsOfPage }
+    ensures warnings { WarningLines }
+    ensures no_warnings { NoWarningLines }
+    ensures tables { TableLines }
+    ensures table_exits { TableExits }
     ensures foreign { ForeignLine }
     ensures map_fault { MapFaultLine }
     ensures missing_fault { MissingFaultLine }

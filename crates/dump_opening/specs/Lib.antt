@@ -1,4 +1,5 @@
 pub mod Counts
+pub mod Given
 pub mod Headers
 pub mod Inputs
 pub mod Opened

@@ -1,118 +1,106 @@
 //! The header of a dump, and the masks that it leaves.
 
-ghost use Rattle.std.specs.Prelude.{◌≡◌, ◌≤◌, ◌∷◌, [], List, ℕ, Option, None, Some, length, take, IfOk, OnOk};
-ghost use Rattle.dump_header.specs.Marking.{AreMasks};
+ghost use Rattle.std.specs.Prelude.{◌≡◌, ◌≤◌, List, ℕ, Some, length, take, IfOk, OnOk};
 ghost use Rattle.dump_lists.specs.Masks.{IsBadSet};
-ghost use Rattle.dump_opening.specs.Counts.{AllCountBy, CountsBy, faults_in};
-ghost use Rattle.dump_opening.specs.Headers.{HasTold, IsFiled, IsHeaderOf, OpensHeader, Takes, Tells};
-ghost use Rattle.dump_opening.specs.Inputs.{TellsFile};
+ghost use Rattle.dump_opening.specs.Counts.{CountsBy};
+ghost use Rattle.dump_opening.specs.Headers.{HasTold, IsFiled, IsHeaderOf, Takes, TakesSome};
+ghost use Rattle.dump_spec.specs.Header.{with_code};
 ghost use Rattle.dump_spec.specs.Lists.{BadSectors};
 
 use crate::opened::OpenError;
-use dump_header::{ForeignValue, decode, make_masks, make_masks_without_header};
-use dump_reader::{KnownDump, find_header, read_filed_header};
-use dump_spec::Status;
+use dump_header::{decode, make_masks, make_masks_without_header, put_code};
+use dump_reader::{DumpBegin, KnownDump, find_header, read_filed_header};
+use dump_spec::RefusedField;
 use dump_volumes::ToldHeader;
 use gf256_qic::DATA_SECTORS;
 use qic_base::{Disk, DiskFailed, Sector};
 
-/// Takes the fields of a header's data. `segment` is that of the data, none where they are those of a file.
-fn take_fields(area: &[Sector], segment: Option<u8>) -> Result<ToldHeader, OpenError>
-    requires { length area.now ≡ 29 }
-    ensures { Tells record { area = area.now; segment = segment } result }
-{
-    match decode(area) {
-        Ok(fields) => Ok(ToldHeader { fields, segment }),
-        Err(ForeignValue { field, value }) => Err(OpenError::Refused {
-            status: Status::Foreign { field, value },
-        }),
-    }
+/// The header of a dump: its fields where it counts, or the field by which it is refused.
+#[derive(Clone, Copy, Drop)]
+pub(crate) struct TakenHeader {
+    pub header: Option<ToldHeader>,
+    pub refused: Option<RefusedField>,
 }
 
-/// Makes the masks by the data of a header, and takes its fields.
+/// Takes the fields of a header's data, the first 29 of 32 sectors, with a format code that is given, and makes the masks. One that
+/// is refused leaves the masks as if there were none.
 fn take_header(
-    sectors: &[Sector],
+    sectors: &mut [Sector],
     segment: Option<u8>,
+    code: Option<u8>,
     words: &mut [u32],
-) -> Result<Option<ToldHeader>, OpenError>
-    requires { length sectors.now ≡ 32 }
-    ensures takes { Takes (Some record { area = take 29 sectors.now; segment = segment }) result }
-    ensures masks { (bad : List BadSectors) → IsBadSet bad words.old →
-        AreMasks (Some (take 29 sectors.now)) bad words.new }
-    ensures told { IfOk result HasTold }
+) -> TakenHeader
+    requires { length sectors.old ≡ 32 }
+    ensures takes { (bad : List BadSectors) → IsBadSet bad words.old →
+        Takes (Some record { area = with_code code (take 29 sectors.old); segment = segment }) bad words.new result }
+    ensures told { HasTold result.header }
 {
-    let area = &sectors[..DATA_SECTORS];
-    make_masks(area, words);
-    Ok(Some(take_fields(area, segment)?))
+    let area = &mut sectors[..DATA_SECTORS];
+    put_code(area, code);
+    match decode(area) {
+        Ok(fields) => {
+            make_masks(area, words);
+            TakenHeader {
+                header: Some(ToldHeader { fields, segment }),
+                refused: None,
+            }
+        }
+        Err(field) => {
+            make_masks_without_header(words);
+            TakenHeader {
+                header: None,
+                refused: Some(field),
+            }
+        }
+    }
 }
 
 /// The header that lies in a file.
-fn open_filed<D: Disk>(
+pub(crate) fn open_filed<D: Disk>(
     file: &mut D,
+    code: Option<u8>,
     words: &mut [u32],
     sectors: &mut [Sector],
-) -> Result<Option<ToldHeader>, OpenError>
+) -> Result<TakenHeader, OpenError>
     requires { length sectors.old ≡ 32 }
     ensures header { (text : List ℕ) (bad : List BadSectors) → D.means.told file.old ≡ Some text →
-        IsBadSet bad words.old → OpensHeader (IsFiled text) bad words.new result }
-    ensures told { IfOk result HasTold }
+        IsBadSet bad words.old → TakesSome (IsFiled code text) bad words.new result }
+    ensures told { IfOk result (λ taken. HasTold taken.header) }
     ensures count { CountsBy (D.means.faults file.old) (D.means.faults file.new) result }
 {
     match read_filed_header(file, sectors) {
-        Ok(()) => take_header(sectors, None, words),
+        Ok(()) => Ok(take_header(sectors, None, code, words)),
         Err(DiskFailed) => Err(OpenError::Input),
     }
 }
 
-/// The header that is found in the dump, if there is one.
-fn open_found<D: Disk>(
+/// The header that is found in the dump, if there is one. What masks are known of the dump does not matter.
+pub(crate) fn open_found<D: Disk>(
     dump: &mut D,
     known: &KnownDump,
+    begin: &DumpBegin,
     zero_lost: bool,
+    code: Option<u8>,
     words: &mut [u32],
     sectors: &mut [Sector],
-) -> Result<Option<ToldHeader>, OpenError>
+) -> Result<TakenHeader, OpenError>
     requires room { length sectors.old ≡ 32 }
     requires missing { 2 ≤ length known.now.missing.now }
     ensures header { (bad : List BadSectors) → IsBadSet bad words.old →
-        OpensHeader (IsHeaderOf None known.now (D.means.told dump.old) zero_lost) bad words.new result }
-    ensures told { IfOk result HasTold }
+        TakesSome (IsHeaderOf code known.now begin.now (D.means.told dump.old) zero_lost) bad words.new result }
+    ensures told { IfOk result (λ taken. HasTold taken.header) }
     ensures same { OnOk result (D.means.told dump.new ≡ D.means.told dump.old) }
     ensures count { CountsBy (D.means.faults dump.old) (D.means.faults dump.new) result }
 {
-    match find_header(dump, known, zero_lost, sectors) {
-        Ok(Some(segment)) => take_header(sectors, Some(segment as u8), words),
+    match find_header(dump, known, begin, zero_lost, sectors) {
+        Ok(Some(segment)) => Ok(take_header(sectors, Some(segment as u8), code, words)),
         Ok(None) => {
             make_masks_without_header(words);
-            Ok(None)
+            Ok(TakenHeader {
+                header: None,
+                refused: None,
+            })
         }
         Err(DiskFailed) => Err(OpenError::Input),
-    }
-}
-
-/// Takes the header of a dump, from its file or as it is found, and makes the masks of all segments from the words of the bad
-/// sectors. What masks are known of the dump does not matter.
-pub(crate) fn open_header<D: Disk>(
-    dump: &mut D,
-    file: &mut Option<D>,
-    known: &KnownDump,
-    zero_lost: bool,
-    words: &mut [u32],
-    sectors: &mut [Sector],
-) -> Result<Option<ToldHeader>, OpenError>
-    requires room { length sectors.old ≡ 32 }
-    requires missing { 2 ≤ length known.now.missing.now }
-    ensures header { (text : Option (List ℕ)) (bad : List BadSectors) → TellsFile D.means file.old text →
-        IsBadSet bad words.old →
-        OpensHeader (IsHeaderOf text known.now (D.means.told dump.old) zero_lost) bad words.new result }
-    ensures counts { AllCountBy
-        (D.means.faults dump.old ∷ faults_in D.means.faults file.old ∷ [])
-        (D.means.faults dump.new ∷ faults_in D.means.faults file.new ∷ []) result }
-    ensures told { IfOk result HasTold }
-    ensures same { OnOk result (D.means.told dump.new ≡ D.means.told dump.old) }
-{
-    match file {
-        Some(file) => open_filed(file, words, sectors),
-        None => open_found(dump, known, zero_lost, words, sectors),
     }
 }

@@ -3,7 +3,7 @@
 ghost use Rattle.std.specs.Prelude.{◌≡◌};
 
 use dump_reader::KnownDump;
-use dump_spec::{Form, Status};
+use dump_spec::{Form, RefusedField, Status};
 use dump_volumes::ToldHeader;
 
 /// Why a dump was not opened: it is refused, or a read of one of the files failed.
@@ -21,18 +21,36 @@ pub struct Opened {
     pub bytes: u64,
     /// The segment of the first piece.
     pub first: u16,
-    /// Whether readable sectors of zero bytes count as lost in a segment that contradicts itself.
+    /// Whether readable sectors of zero bytes may count as lost.
     pub zero_lost: bool,
+    /// The header that counts.
     pub header: Option<ToldHeader>,
+    /// The field by which a header is refused, which counts as none.
+    pub refused: Option<RefusedField>,
+    /// The format code that is given in place of the header's own.
+    pub format_code: Option<u8>,
+    /// Whether a list of bad sectors is given.
+    pub bad_given: bool,
+    /// Whether the dump begins with the slot of a volume.
+    pub begins_with_table: bool,
 }
 
 /// A dump that was opened.
 #[derive(Clone, Copy)]
 pub struct OpenDump<'a> {
     pub known: KnownDump<'a>,
-    /// Whether readable sectors of zero bytes count as lost in a segment that contradicts itself.
+    /// Whether readable sectors of zero bytes may count as lost.
     pub zero_lost: bool,
+    /// The header that counts.
     pub header: Option<ToldHeader>,
+    /// The field by which a header is refused, which counts as none.
+    pub refused: Option<RefusedField>,
+    /// The format code that is given in place of the header's own.
+    pub format_code: Option<u8>,
+    /// Whether a list of bad sectors is given.
+    pub bad_given: bool,
+    /// Whether the dump begins with the slot of a volume.
+    pub begins_with_table: bool,
 }
 
 impl Opened {
@@ -64,6 +82,10 @@ impl Opened {
             },
             zero_lost: self.zero_lost,
             header: self.header,
+            refused: self.refused,
+            format_code: self.format_code,
+            bad_given: self.bad_given,
+            begins_with_table: self.begins_with_table,
         }
     }
 }

@@ -1,21 +1,26 @@
 //! The opening of a dump.
 
-ghost use Rattle.std.specs.Prelude.{◌≡◌, List, ℕ, Option, None, IfOk, length};
-ghost use Rattle.dump_opening.specs.Counts.{AllCountBy};
+ghost use Rattle.std.specs.Prelude.{◌≡◌, List, ℕ, Option, None, IfOk, IfSome, OnOk, length};
+ghost use Rattle.dump_lists.specs.Masks.{IsBadSet};
+ghost use Rattle.dump_opening.specs.Counts.{AllCountBy, CountsBy, faults_in};
+ghost use Rattle.dump_opening.specs.Given.{OpensGiven, first_in};
 ghost use Rattle.dump_opening.specs.Headers.{HasTold};
-ghost use Rattle.dump_opening.specs.Inputs.{TellInputs, TellsText, fault_counts, text_counts};
+ghost use Rattle.dump_opening.specs.Inputs.{TellInputs, TellsFile, TellsText, fault_counts, text_counts};
 ghost use Rattle.dump_opening.specs.Opened.{Opens};
 ghost use Rattle.dump_opening.specs.Texts.{ReadsTexts};
+ghost use Rattle.dump_reader.specs.Begun.{IsBegin};
 ghost use Rattle.dump_spec.specs.Answers.{Inputs, sure_refusal};
+ghost use Rattle.dump_spec.specs.Lists.{BadSectors};
+ghost use Rattle.qic_base.specs.Disk.{Look, Stored};
 
 use crate::files::DumpFiles;
-use crate::header::open_header;
+use crate::header::{TakenHeader, open_filed, open_found};
 use crate::opened::{OpenError, Opened};
 use crate::size::measure_dump;
 use crate::texts::{read_lacking, read_listed, read_rescued};
-use dump_reader::KnownDump;
+use dump_reader::{DumpBegin, KnownDump, first_segment, read_begin};
 use dump_spec::Asked;
-use qic_base::{Disk, Sector, Source};
+use qic_base::{Disk, DiskFailed, Sector, Source};
 
 /// Reads the map and the lists: into the set of the sectors that were rescued, the set of the segments that the dump lacks, and
 /// the words of the bad sectors.
@@ -37,10 +42,55 @@ fn read_texts<D, S: Source>(
     read_listed(&mut files.bad, words)
 }
 
-/// Opens a dump: reads the map and the lists, looks at its length, and takes its header. Words of 32 bits are made of them: one
-/// for each segment of the sectors that were rescued, one for 32 segments of those that the dump lacks, and the masks, one for
-/// each segment. An error is a refusal, the first one in the order of the map, the missing segments, the bad sectors, the
-/// length and the header; or a read that failed.
+/// The header of a file, where one is given.
+fn open_given<D: Disk>(
+    file: &mut Option<D>,
+    code: Option<u8>,
+    words: &mut [u32],
+    sectors: &mut [Sector],
+) -> Result<Option<TakenHeader>, OpenError>
+    requires { length sectors.old ≡ 32 }
+    ensures header { (text : Option (List ℕ)) (bad : List BadSectors) → TellsFile D.means file.old text →
+        IsBadSet bad words.old → OpensGiven code text bad words.old words.new result }
+    ensures told { IfOk result (λ given. IfSome given (λ taken. HasTold taken.header)) }
+    ensures count { CountsBy (faults_in D.means.faults file.old) (faults_in D.means.faults file.new) result }
+{
+    match file {
+        Some(file) => Ok(Some(open_filed(file, code, words, sectors)?)),
+        None => Ok(None),
+    }
+}
+
+/// The first data segment of a header that is given and not refused.
+fn accepted_first(given: &Option<TakenHeader>) -> Option<u16>
+    ensures { result ≡ first_in given.now }
+{
+    match given {
+        Some(TakenHeader {
+            header: Some(header),
+            ..
+        }) => Some(header.fields.first_data),
+        _ => None,
+    }
+}
+
+/// What the dump begins with.
+fn look_at_begin<D: Disk>(disk: &mut D) -> Result<DumpBegin, OpenError>
+    ensures begin { IfOk result (λ begin. IfSome (D.means.told disk.old) (IsBegin begin)) }
+    ensures looked { OnOk result (Stored D.means disk.old disk.new Look) }
+    ensures count { CountsBy (D.means.faults disk.old) (D.means.faults disk.new) result }
+{
+    match read_begin(disk) {
+        Ok(begin) => Ok(begin),
+        Err(DiskFailed) => Err(OpenError::Input),
+    }
+}
+
+/// Opens a dump: reads the map and the lists, what the dump begins with and the header that is given, looks at the dump's length, and
+/// looks for its header where none is given. Words of 32 bits are made of them: one for each segment of the sectors that were
+/// rescued, one for 32 segments of those that the dump lacks, and the masks, one for each segment. An error is a refusal, the first
+/// one in the order of the map, the missing segments, the bad sectors and the length; or a read that failed. A header that is
+/// refused is none.
 pub fn open_dump<D: Disk, S: Source>(
     files: &mut DumpFiles<D, S>,
     asked: &Asked,
@@ -60,29 +110,47 @@ pub fn open_dump<D: Disk, S: Source>(
     ensures counts { AllCountBy (fault_counts D.means S.means files.old)
         (fault_counts D.means S.means files.new) result }
 {
+    let bad_given = files.bad.is_some();
     read_texts(files, rescued, missing, masks)?;
-    let size = measure_dump(&mut files.dump, asked, missing)?;
+    let begin = look_at_begin(&mut files.dump)?;
+    let given = open_given(&mut files.header, asked.format_code, masks, sectors)?;
+    let first = first_segment(
+        asked.form,
+        asked.first,
+        asked.format_code,
+        accepted_first(&given),
+        &begin,
+    );
+    let bytes = measure_dump(&mut files.dump, asked.form, first, missing)?;
     let known = KnownDump {
         form: asked.form,
-        bytes: size.bytes,
+        bytes,
         rescued,
-        first: size.first,
+        first,
         missing,
         masks: &[],
     };
-    let header = open_header(
-        &mut files.dump,
-        &mut files.header,
-        &known,
-        asked.zero_lost,
-        masks,
-        sectors,
-    )?;
+    let taken = match given {
+        Some(taken) => taken,
+        None => open_found(
+            &mut files.dump,
+            &known,
+            &begin,
+            asked.zero_lost,
+            asked.format_code,
+            masks,
+            sectors,
+        )?,
+    };
     Ok(Opened {
         form: asked.form,
-        bytes: size.bytes,
-        first: size.first,
+        bytes,
+        first,
         zero_lost: asked.zero_lost,
-        header,
+        header: taken.header,
+        refused: taken.refused,
+        format_code: asked.format_code,
+        bad_given,
+        begins_with_table: begin.table,
     })
 }

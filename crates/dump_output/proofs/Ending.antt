@@ -1,5 +1,5 @@
 -- How an output ends.
-use Rattle.std.proofs.Common.{◌≡◌, ℕ, ◌+◌, ◌-◌, Bool, inr, List, [], ◌∷◌, ◌++◌, Result, Ok, Err, refl, sym, ap, subst, ◌∙◌, append-nil}
+use Rattle.std.proofs.Common.{◌≡◌, ℕ, ◌+◌, ◌-◌, Bool, true, inr, List, [], ◌∷◌, ◌++◌, Result, Ok, Err, refl, sym, ap, subst, ◌∙◌, append-nil}
 use Rattle.std.specs.List.{range_with_len}
 use Rattle.dump_reader.proofs.Looking.{looked_none}
 use Rattle.dump_reader.specs.Laid.{Describes}
@@ -28,11 +28,11 @@ use Rattle.sure_map.specs.Maps.{IsMapOf, last_line}
 use Rattle.sure_map.specs.declared.map.SureMap.{SureMap}
 
 -- the map was not begun
-pub begin_failed : {D K M : Type 0} (d : disks.Meaning D) (k : Meaning K) (s : Meaning M) (known : KnownDump) (zero_lost : Bool)
+pub begin_failed : {D K M : Type 0} (d : disks.Meaning D) (k : Meaning K) (s : Meaning M) (known : KnownDump) (zero_lost masks_known : Bool)
     (first last size : ℕ) (old : Outside D K M) (sure : M) → k.took old.output [] old.output →
     ((marks : List Mark) → BrokeOff s old.sure sure (sure_text marks)) → (fault : PutFault) → fault ≡ faults.Output →
-    PutsOut d k s known zero_lost first last size old (record { disk = old.disk; output = old.output; sure = sure }) (Err fault)
-begin_failed d k s known zero_lost first last size old sure took broke fault output = record {
+    PutsOut d k s known zero_lost masks_known first last size old (record { disk = old.disk; output = old.output; sure = sure }) (Err fault)
+begin_failed d k s known zero_lost masks_known first last size old sure took broke fault output = record {
   front = [];
   rest = range_with_len first (last + 1 - first);
   parts = refl;
@@ -53,10 +53,10 @@ begin_failed d k s known zero_lost first last size old sure took broke fault out
 }
 
 -- the segments were cut off
-pub segments_cut : {D K M T : Type 0} {d : disks.Meaning D} {k : Meaning K} {s : Meaning M} {known : KnownDump} {zero_lost : Bool}
+pub segments_cut : {D K M T : Type 0} {d : disks.Meaning D} {k : Meaning K} {s : Meaning M} {known : KnownDump} {zero_lost masks_known : Bool}
     {first last size : ℕ} {old new : Outside D K M} (progress : Progress) (fault : PutFault) →
-    PutSegments {T = T} d k s known zero_lost first last size old new progress (Err fault) →
-    PutsOut d k s known zero_lost first last size old new (Err fault)
+    PutSegments {T = T} d k s known zero_lost masks_known first last size old new progress (Err fault) →
+    PutsOut d k s known zero_lost masks_known first last size old new (Err fault)
 segments_cut progress fault put = record {
   front = put.front;
   rest = put.rest;
@@ -71,11 +71,11 @@ abbrev pub EndsMap : SureMap → Type 0
 EndsMap map = (marks : List Mark) (front : List ℕ) → IsMapOf map marks front → front ++ last_line map ≡ sure_text marks
 
 -- its last line was not written
-pub finish_failed : {D K M T : Type 0} {d : disks.Meaning D} {k : Meaning K} {s : Meaning M} {known : KnownDump} {zero_lost : Bool}
+pub finish_failed : {D K M T : Type 0} {d : disks.Meaning D} {k : Meaning K} {s : Meaning M} {known : KnownDump} {zero_lost masks_known : Bool}
     {first last size : ℕ} {old new : Outside D K M} (both : TakesBoth s) (progress : Progress) (x : T) (sure : M) →
-    PutSegments d k s known zero_lost first last size old new progress (Ok x) → EndsMap progress.map →
+    PutSegments d k s known zero_lost masks_known first last size old new progress (Ok x) → EndsMap progress.map →
     BrokeOff s new.sure sure (last_line progress.map) → (fault : PutFault) → fault ≡ faults.Output →
-    PutsOut d k s known zero_lost first last size old (record { disk = new.disk; output = new.output; sure = sure }) (Err fault)
+    PutsOut d k s known zero_lost masks_known first last size old (record { disk = new.disk; output = new.output; sure = sure }) (Err fault)
 finish_failed {d = d} {k = k} {s = s} {size = size} {old = old} {new = new} both progress x sure put whole broke fault output = record {
   front = put.front;
   rest = put.rest;
@@ -96,12 +96,12 @@ finish_failed {d = d} {k = k} {s = s} {size = size} {old = old} {new = new} both
 }
 
 -- all was written
-pub all_written : {D K M T : Type 0} {d : disks.Meaning D} {k : Meaning K} {s : Meaning M} {known : KnownDump} {zero_lost : Bool}
+pub all_written : {D K M T : Type 0} {d : disks.Meaning D} {k : Meaning K} {s : Meaning M} {known : KnownDump} {zero_lost masks_known : Bool}
     {first last size : ℕ} {old new : Outside D K M} (both : TakesBoth s) (progress : Progress) (x : T) (sure : M) →
-    PutSegments d k s known zero_lost first last size old new progress (Ok x) → EndsMap progress.map →
+    PutSegments d k s known zero_lost masks_known first last size old new progress (Ok x) → EndsMap progress.map →
     Wrote s new.sure sure (last_line progress.map) → (status : Status) →
     ((marks : List Mark) (front : List ℕ) → IsMapOf progress.map marks front → status ≡ output_status marks) →
-    PutsOut d k s known zero_lost first last size old (record { disk = new.disk; output = new.output; sure = sure }) (Ok status)
+    PutsOut d k s known zero_lost masks_known first last size old (record { disk = new.disk; output = new.output; sure = sure }) (Ok status)
 all_written {size = size} both progress x sure put whole wrote status told = record {
   front = put.front;
   rest = put.rest;
@@ -121,25 +121,25 @@ all_written {size = size} both progress x sure put whole wrote status told = rec
 
 -- ---- by what all segments give
 
-no_more : (dump : Dump) (layout : Layout) (zero_lost : Bool) (rest : List ℕ) (more : List Given) → rest ≡ [] →
-    GiveInTurn dump layout zero_lost rest more → more ≡ []
-no_more dump layout zero_lost [] more none turn = turn
-no_more dump layout zero_lost (segment ∷ rest) more none turn = absurd (cc)
+no_more : (dump : Dump) (layout : Layout) (zero_lost masks_known placed : Bool) (rest : List ℕ) (more : List Given) → rest ≡ [] →
+    GiveInTurn dump layout zero_lost masks_known placed rest more → more ≡ []
+no_more dump layout zero_lost masks_known placed [] more none turn = turn
+no_more dump layout zero_lost masks_known placed (segment ∷ rest) more none turn = absurd (cc)
 
-pub puts_whole : {D K M : Type 0} {d : disks.Meaning D} {k : Meaning K} {s : Meaning M} {known : KnownDump} {zero_lost : Bool}
+pub puts_whole : {D K M : Type 0} {d : disks.Meaning D} {k : Meaning K} {s : Meaning M} {known : KnownDump} {zero_lost masks_known : Bool}
     {first last size : ℕ} {old new : Outside D K M} (result : Result Status PutFault) →
-    PutsOut d k s known zero_lost first last size old new result → (dump : Dump) (layout : Layout) (whole : List Given) →
-    Describes known (d.told old.disk) dump layout → Give dump layout zero_lost first last whole →
+    PutsOut d k s known zero_lost masks_known first last size old new result → (dump : Dump) (layout : Layout) (whole : List Given) →
+    Describes known (d.told old.disk) dump layout → Give dump layout zero_lost masks_known first last whole →
     PutsWhole d k s size old new whole result
-puts_whole {d = d} {k = k} {s = s} {zero_lost = zero_lost} {size = size} {old = old} {new = new} (Ok status) out dump layout whole by all =
-    let begin = fronts_begin dump layout zero_lost out.front out.rest out.given whole (out.gives dump layout by)
-    (subst (λ (ss : List ℕ). GiveInTurn dump layout zero_lost ss whole) (sym out.parts) all) in
+puts_whole {d = d} {k = k} {s = s} {zero_lost = zero_lost} {masks_known = masks_known} {size = size} {old = old} {new = new} (Ok status) out dump layout whole by all =
+    let begin = fronts_begin dump layout zero_lost masks_known true out.front out.rest out.given whole (out.gives dump layout by)
+    (subst (λ (ss : List ℕ). GiveInTurn dump layout zero_lost masks_known true ss whole) (sym out.parts) all) in
     let same : whole ≡ out.given =
-    begin.1 ∙ ap (λ (gs : List Given). out.given ++ gs) (no_more dump layout zero_lost out.rest begin.0 out.puts.0 begin.2)
+    begin.1 ∙ ap (λ (gs : List Given). out.given ++ gs) (no_more dump layout zero_lost masks_known begin.2 out.rest begin.0 out.puts.0 begin.3)
     ∙ append-nil out.given in
     subst (λ (gs : List Given). PutAll d k s old new (output_of size gs) status) (sym same) out.puts.1
-puts_whole {d = d} {k = k} {s = s} {zero_lost = zero_lost} {size = size} {old = old} {new = new} (Err fault) out dump layout whole by all =
-    let begin = fronts_begin dump layout zero_lost out.front out.rest out.given whole (out.gives dump layout by)
-    (subst (λ (ss : List ℕ). GiveInTurn dump layout zero_lost ss whole) (sym out.parts) all) in
+puts_whole {d = d} {k = k} {s = s} {zero_lost = zero_lost} {masks_known = masks_known} {size = size} {old = old} {new = new} (Err fault) out dump layout whole by all =
+    let begin = fronts_begin dump layout zero_lost masks_known true out.front out.rest out.given whole (out.gives dump layout by)
+    (subst (λ (ss : List ℕ). GiveInTurn dump layout zero_lost masks_known true ss whole) (sym out.parts) all) in
     subst (λ (gs : List Given). Cut d k s old new (output_of size gs) fault) (sym begin.1)
-    (out.puts begin.0 (λ none. no_more dump layout zero_lost out.rest begin.0 none begin.2))
+    (out.puts begin.0 (λ none. no_more dump layout zero_lost masks_known begin.2 out.rest begin.0 none begin.3))

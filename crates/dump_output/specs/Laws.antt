@@ -7,6 +7,7 @@ use Rattle.dump_spec.specs.Pieces.{Layout}
 
 abbrev pub FrontsBegin : Type 0
 FrontsBegin =
-    (dump : Dump) (layout : Layout) (zero_lost : Bool) (front rest : List ℕ) (given whole : List Given) →
-    GiveInTurn dump layout zero_lost front given → GiveInTurn dump layout zero_lost (front ++ rest) whole →
-    (more : List Given) × (whole ≡ given ++ more) × GiveInTurn dump layout zero_lost rest more
+    (dump : Dump) (layout : Layout) (zero_lost masks_known placed : Bool) (front rest : List ℕ) (given whole : List Given) →
+    GiveInTurn dump layout zero_lost masks_known placed front given →
+    GiveInTurn dump layout zero_lost masks_known placed (front ++ rest) whole →
+    (more : List Given) × (whole ≡ given ++ more) × (after : Bool) × GiveInTurn dump layout zero_lost masks_known after rest more

@@ -1,5 +1,5 @@
 -- How an output of bytes goes, over a disk with a dump, a sink for the bytes and a sink for their map (this project's own).
-use Rattle.std.specs.Prelude.{ℕ, ◌+◌, ◌-◌, ◌≡◌, ◌++◌, ◌⊎◌, Bool, List, [], Result, Ok, Err}
+use Rattle.std.specs.Prelude.{ℕ, ◌+◌, ◌-◌, ◌≡◌, ◌++◌, ◌⊎◌, Bool, true, List, [], Result, Ok, Err}
 use Rattle.std.specs.List.{range_with_len}
 use Rattle.dump_reader.specs.Laid.{Describes}
 use Rattle.dump_reader.specs.declared.known.KnownDump.{KnownDump}
@@ -78,11 +78,11 @@ Puts d k s size old new rest given (Err fault) =
 -- An output of the first bytes, so many, of what the segments from one to another give, and how it went: the segments that were
 -- read, those left, the sectors that the former give, and what was written. Where the disk tells nothing they are some sectors.
 pub record PutsOut {D K M : Type 0} (d : disks.Meaning D) (k : sinks.Meaning K) (s : sinks.Meaning M) (known : KnownDump)
-    (zero_lost : Bool) (first last size : ℕ) (old new : Outside D K M) (result : Result Status PutFault) : Type 0 where
+    (zero_lost masks_known : Bool) (first last size : ℕ) (old new : Outside D K M) (result : Result Status PutFault) : Type 0 where
   pub front : List ℕ
   pub rest : List ℕ
   pub parts : front ++ rest ≡ range_with_len first (last + 1 - first)
   pub given : List Given
   pub gives : (dump : Dump) (layout : Layout) → Describes known (d.told old.disk) dump layout →
-      GiveInTurn dump layout zero_lost front given
+      GiveInTurn dump layout zero_lost masks_known true front given
   pub puts : Puts d k s size old new rest given result

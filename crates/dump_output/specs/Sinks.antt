@@ -1,5 +1,5 @@
 -- What the sinks took while sectors were put out (this project's own).
-use Rattle.std.specs.Prelude.{ℕ, ◌+◌, ◌-◌, ◌*◌, ◌≡◌, ◌++◌, ◌⊎◌, Bool, List, [], length, Result, Ok, Err}
+use Rattle.std.specs.Prelude.{ℕ, ◌+◌, ◌-◌, ◌*◌, ◌≡◌, ◌++◌, ◌⊎◌, Bool, true, List, [], length, Result, Ok, Err}
 use Rattle.std.specs.List.{flat_map, range_with_len}
 use Rattle.dump_reader.specs.Laid.{Describes}
 use Rattle.dump_reader.specs.declared.known.KnownDump.{KnownDump}
@@ -53,11 +53,12 @@ PutIn d k s size old new progress rest given (Err fault) =
 
 -- the segments from one to another were put out, or a fault cut them off
 pub record PutSegments {D K M T : Type 0} (d : disks.Meaning D) (k : Meaning K) (s : Meaning M) (known : KnownDump)
-    (zero_lost : Bool) (first last size : ℕ) (old new : Outside D K M) (progress : Progress) (result : Result T PutFault) : Type 0 where
+    (zero_lost masks_known : Bool) (first last size : ℕ) (old new : Outside D K M) (progress : Progress) (result : Result T PutFault) :
+    Type 0 where
   pub front : List ℕ
   pub rest : List ℕ
   pub parts : front ++ rest ≡ range_with_len first (last + 1 - first)
   pub given : List Given
   pub gives : (dump : Dump) (layout : Layout) → Describes known (d.told old.disk) dump layout →
-      GiveInTurn dump layout zero_lost front given
+      GiveInTurn dump layout zero_lost masks_known true front given
   pub puts : PutIn d k s size old new progress rest given result

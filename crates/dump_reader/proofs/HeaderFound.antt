@@ -8,10 +8,9 @@ use Rattle.cartridge_spec.specs.Says.{whole_mask}
 use Rattle.dump_spec.specs.Cells.{cells_in}
 use Rattle.dump_spec.specs.Dump.{Dump}
 use Rattle.dump_lists.specs.Masks.{IsMissingSet}
-use Rattle.dump_spec.specs.HeaderPlace.{IsHeader, IsHeaderIn, NoneBelow, ReadsAs}
+use Rattle.dump_spec.specs.HeaderPlace.{IsHeader, IsHeaderIn, NoneBelow, ReadsAs, is_looked_for}
 use Rattle.dump_spec.specs.Pieces.{Layout, all_usable, has_piece}
 use Rattle.dump_spec.specs.declared.form.Form.{Form}
-use Rattle.dump_spec.specs.declared.form.Form.TheVariants as forms
 use Rattle.dump_reader.specs.Found.{TellsHeader, TellsFirst, header_in}
 use Rattle.dump_reader.specs.Laid.{Describes, HasSegment, AreCellsIn}
 use Rattle.dump_reader.specs.Piece.{IsDumpIn}
@@ -87,15 +86,18 @@ describes_whole known whole told dump layout is by = record {
   };
 }
 
-pub header_is : (known : KnownDump) (told : Option (List ℕ)) (dump : Dump) (layout : Layout) (zero_lost : Bool) (area : List (List ℕ))
-    (found : Option ℕ) → Describes known told dump layout → (known.form ≡ forms.Data → known.first ≡ 0) →
-    TellsFirst dump layout zero_lost area found → IsHeader None dump layout zero_lost (header_in area found)
-header_is known told dump layout zero_lost area None by looked none = λ sought. none
-header_is known told dump layout zero_lost area (Some segment) by looked first = (
+pub header_is : (known : KnownDump) (told : Option (List ℕ)) (dump : Dump) (layout : Layout) (zero_lost : Bool)
+    (code : Option ℕ) (area : List (List ℕ)) (found : Option ℕ) → Describes known told dump layout →
+    is_looked_for known.form known.first dump.bytes ≡ true → TellsFirst dump layout zero_lost area found →
+    IsHeader code None dump layout zero_lost (header_in code area found)
+header_is known told dump layout zero_lost code area None by looked none = λ sought. none
+header_is known told dump layout zero_lost code area (Some segment) by looked first = (
   segment,
+  area,
   refl,
   record {
-    looked_for = λ form. by.laid.first ∙ looked (sym by.laid.form ∙ form);
+    looked_for = ap (λ (f : Form). is_looked_for f layout.first dump.bytes) by.laid.form
+        ∙ ap (λ (n : ℕ). is_looked_for known.form n dump.bytes) by.laid.first ∙ looked;
     within = first.0;
     here = first.1;
     before = first.2;
@@ -103,9 +105,18 @@ header_is known told dump layout zero_lost area (Some segment) by looked first =
 )
 
 pub header_by : (known whole : KnownDump) (told : Option (List ℕ)) (dump : Dump) (layout : Layout) (zero_lost : Bool)
-    (area : List (List ℕ)) (found : Option ℕ) →
+    (code : Option ℕ) (area : List (List ℕ)) (found : Option ℕ) →
     (Describes whole told dump (all_usable layout) → TellsFirst dump layout zero_lost area found) → IsWhole known whole →
-    (known.form ≡ forms.Data → known.first ≡ 0) → Describes known told dump layout →
-    IsHeader None dump layout zero_lost (header_in area found)
-header_by known whole told dump layout zero_lost area found tells is looked by =
-    header_is known told dump layout zero_lost area found by looked (tells (describes_whole known whole told dump layout is by))
+    is_looked_for known.form known.first dump.bytes ≡ true → Describes known told dump layout →
+    IsHeader code None dump layout zero_lost (header_in code area found)
+header_by known whole told dump layout zero_lost code area found tells is looked by =
+    header_is known told dump layout zero_lost code area found by looked
+    (tells (describes_whole known whole told dump layout is by))
+
+-- it is not looked for
+pub header_none : (known : KnownDump) (told : Option (List ℕ)) (dump : Dump) (layout : Layout) (zero_lost : Bool) (code : Option ℕ)
+    (area : List (List ℕ)) → Describes known told dump layout → is_looked_for known.form known.first dump.bytes ≡ false →
+    IsHeader code None dump layout zero_lost (header_in code area None)
+header_none known told dump layout zero_lost code area by looked = λ sought.
+    absurd (false≢true (sym looked ∙ sym (ap (λ (f : Form). is_looked_for f layout.first dump.bytes) by.laid.form
+    ∙ ap (λ (n : ℕ). is_looked_for known.form n dump.bytes) by.laid.first) ∙ sought))

@@ -2,6 +2,7 @@
 use Rattle.std.specs.Prelude.{ℕ, ◌<◌, Bool, true, false, List, Option, Some, None}
 use Rattle.std.specs.Option.{option_map}
 use Rattle.dump_spec.specs.Dump.{Dump}
+use Rattle.dump_spec.specs.Header.{with_code}
 use Rattle.dump_spec.specs.HeaderPlace.{FoundHeader, IsHeaderIn, NoneBelow}
 use Rattle.dump_spec.specs.Pieces.{Layout}
 
@@ -16,6 +17,6 @@ TellsFirst dump layout zero_lost area (Some segment) =
     (segment < 64) × IsHeaderIn dump layout zero_lost segment area × NoneBelow dump layout zero_lost segment
 TellsFirst dump layout zero_lost area None = NoneBelow dump layout zero_lost 64
 
--- the header of a dump that was found in a segment
-abbrev pub header_in : (area : List (List ℕ)) → Option ℕ → Option FoundHeader
-header_in area found = option_map (λ segment. record { area = area; segment = Some segment }) found
+-- the header of a dump that was found in a segment, with a format code that is given
+abbrev pub header_in : (code : Option ℕ) → (area : List (List ℕ)) → Option ℕ → Option FoundHeader
+header_in code area found = option_map (λ segment. record { area = with_code code area; segment = Some segment }) found

@@ -1,49 +1,82 @@
 //! The segment of the first piece, and the longest dump.
 
-ghost use Rattle.std.specs.Prelude.{◌≡◌, ◌≤◌, ◌*◌, ◌+◌, ◌∷◌, [], List, length, count_by, IfOk, IfSome};
+ghost use Rattle.std.specs.Prelude.{◌≡◌, ◌≤◌, ◌*◌, ◌+◌, List, Option, length, count_by, ℕ};
 ghost use Rattle.std.specs.List.{range_with_len};
-ghost use Rattle.cartridge_spec.specs.Header.{has_signature};
+ghost use Rattle.std.specs.Option.{option_and_then};
 ghost use Rattle.dump_lists.specs.Masks.{IsMissingSet};
+ghost use Rattle.dump_spec.specs.First.{accepted_first, first_else, first_segment, is_counting};
 ghost use Rattle.dump_spec.specs.Lists.{Span};
-ghost use Rattle.dump_spec.specs.Pieces.{first_segment, most_bytes, longest_piece};
+ghost use Rattle.dump_spec.specs.Pieces.{most_bytes, longest_piece};
+ghost use Rattle.dump_reader.specs.Begun.{IsBegin, begun_first};
 ghost use Rattle.dump_reader.specs.Missing.{there_from};
-ghost use Rattle.qic_base.specs.Disk.{Look, Stores};
 
+use crate::begin::DumpBegin;
 use crate::piece::is_marked;
 use dump_lists::SEGMENTS;
 use dump_spec::Form;
-use header_segments::SIGNATURE;
-use qic_base::{Disk, DiskFailed, read_u32};
 
-/// Whether a dump begins with a header's signature.
-fn begins_with_signature<D: Disk>(disk: &mut D) -> Result<bool, DiskFailed>
-    ensures did { Stores D.means disk.old disk.new Look result }
-    ensures signature { IfOk result (λ begins. IfSome (D.means.told disk.old) (λ bytes.
-        begins ≡ has_signature (bytes ∷ []))) }
+/// The format code whose slots count the segments of volumes.
+const COUNTING: u8 = 6;
+
+/// Whether slots count the segments of volumes by a format code that is given.
+fn is_counting(code: Option<u8>) -> bool
+    ensures { result ≡ is_counting code }
 {
-    let mut head = [0; 4];
-    let count = disk.read_at(0, &mut head)?;
-    Ok(count == 4 && read_u32(&head, 0) == SIGNATURE)
+    match code {
+        Some(code) => code == COUNTING,
+        None => false,
+    }
 }
 
-/// The segment of the first piece: the one that is asked for; else 0, but 2 in the form of data where the dump does not begin
-/// with a header's signature. The disk is read in the form of data alone, its first four bytes, where none is asked for.
-pub fn first_segment<D: Disk>(
-    disk: &mut D,
+fn first_else(form: Form) -> u16
+    ensures { result ≡ first_else form }
+{
+    match form {
+        Form::Sectors => 0,
+        Form::Data => 2,
+    }
+}
+
+/// The segment of the first piece where none is asked for, by what the dump begins with. `accepted` is the first data segment of a
+/// header that is given and not refused.
+fn first_by_begin(
+    form: Form,
+    code: Option<u8>,
+    accepted: Option<u16>,
+    begin: &DumpBegin,
+) -> u16
+    ensures { result ≡ begun_first form code accepted begin.now }
+{
+    if begin.header {
+        return 0;
+    }
+    if let Some(segment) = accepted {
+        if begin.table || form == Form::Data {
+            return segment;
+        }
+    }
+    match begin.place {
+        Some(segment) if !is_counting(code) => segment,
+        _ => first_else(form),
+    }
+}
+
+/// The segment of the first piece: the one that is asked for; else 0 where the dump begins with a header; else that of the table, by
+/// a header that is given, whose first data segment is `accepted` where it is not refused, or by the first slot; else 0, and in the
+/// form of data 2.
+pub fn first_segment(
     form: Form,
     asked: Option<u16>,
-) -> Result<u16, DiskFailed>
-    ensures did { Stores D.means disk.old disk.new Look result }
-    ensures first { IfOk result (λ segment. IfSome (D.means.told disk.old) (λ bytes.
-        segment ≡ first_segment form asked bytes)) }
+    code: Option<u8>,
+    accepted: Option<u16>,
+    begin: &DumpBegin,
+) -> u16
+    ensures { (bytes : List ℕ) (given : Option (List (List ℕ))) → IsBegin begin.now bytes →
+        accepted ≡ option_and_then accepted_first given → result ≡ first_segment form asked code given bytes }
 {
-    match (asked, form) {
-        (Some(segment), _) => Ok(segment),
-        (None, Form::Sectors) => Ok(0),
-        (None, Form::Data) => {
-            let begins = begins_with_signature(disk)?;
-            Ok(if begins { 0 } else { 2 })
-        }
+    match asked {
+        Some(segment) => segment,
+        None => first_by_begin(form, code, accepted, begin),
     }
 }
 

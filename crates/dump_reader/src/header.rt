@@ -1,14 +1,15 @@
 //! The header of a dump.
 
-ghost use Rattle.std.specs.Prelude.{◌≡◌, ◌<◌, ◌≤◌, ◌*◌, length, take, IfOk, IfSome, None};
-ghost use Rattle.std.specs.Bool.{OnTrue, OnFalse};
+ghost use Rattle.std.specs.Prelude.{◌≡◌, ◌<◌, ◌≤◌, ◌*◌, length, take, IfOk, IfSome, List, None, Option, ℕ};
 ghost use Rattle.dump_spec.specs.Dump.{Dump};
-ghost use Rattle.dump_spec.specs.HeaderPlace.{IsHeader};
+ghost use Rattle.dump_spec.specs.HeaderPlace.{IsHeader, is_looked_for};
 ghost use Rattle.dump_spec.specs.Pieces.{Layout, all_usable};
+ghost use Rattle.dump_reader.specs.Begun.{IsBegin};
 ghost use Rattle.dump_reader.specs.Found.{TellsHeader, TellsFirst, header_in};
 ghost use Rattle.dump_reader.specs.Laid.{IsPlaced, HasSegment, Describes};
 ghost use Rattle.qic_base.specs.Disk.{Look, Stores};
 
+use crate::begin::DumpBegin;
 use crate::cursor::Cursor;
 use crate::known::KnownDump;
 use crate::reading::read_piece;
@@ -71,36 +72,38 @@ fn search<D: Disk>(
     Ok(None)
 }
 
-/// In the form of data a header is looked for only where the first piece is that of segment 0.
-fn is_looked_for(form: Form, first: u16) -> bool
-    ensures there { OnTrue result (form ≡ Form.Data → first ≡ 0) }
-    ensures not { OnFalse result ((form ≡ Form.Data → first ≡ 0) → ⊥) }
+/// In the form of data a header is looked for only where the first piece is that of segment 0, or the dump begins with a header's
+/// signature.
+fn is_looked_for(form: Form, first: u16, begin: &DumpBegin) -> bool
+    ensures { (bytes : List ℕ) → IsBegin begin.now bytes → result ≡ is_looked_for form first bytes }
 {
     match form {
         Form::Sectors => true,
-        Form::Data => first == 0,
+        Form::Data => first == 0 || begin.header,
     }
 }
 
 /// Looks for the header of a dump in its first 64 segments: answers the first one whose 32 sectors (29 of data in the form of
 /// data), all taken as usable, read as a header, and makes the first 29 sectors its data. What masks are known does not matter.
-/// In the form of data there is one only where the first piece is that of segment 0.
+/// In the form of data there is one only where the first piece is that of segment 0, or the dump begins with its signature. The
+/// format code of the data is that of the header itself.
 pub fn find_header<D: Disk>(
     disk: &mut D,
     known: &KnownDump,
+    begin: &DumpBegin,
     zero_lost: bool,
     sectors: &mut [Sector],
 ) -> Result<Option<u16>, DiskFailed>
     requires room { length sectors.old ≡ 32 }
     requires missing { 2 ≤ length known.now.missing.now }
     ensures did { Stores D.means disk.old disk.new Look result }
-    ensures found { IfOk result (λ found. (dump : Dump) (layout : Layout) →
-        Describes known.now (D.means.told disk.old) dump layout →
-        IsHeader None dump layout zero_lost (header_in (take 29 sectors.new) found)) }
+    ensures found { IfOk result (λ found. (dump : Dump) (layout : Layout) (code : Option ℕ) →
+        Describes known.now (D.means.told disk.old) dump layout → IsBegin begin.now dump.bytes →
+        IsHeader code None dump layout zero_lost (header_in code (take 29 sectors.new) found)) }
     ensures near { IfOk result (λ found. IfSome found (λ segment. segment < 64)) }
     ensures room { length sectors.new ≡ 32 }
 {
-    if !is_looked_for(known.form, known.first) {
+    if !is_looked_for(known.form, known.first, begin) {
         return Ok(None);
     }
     let masks = [WHOLE; LOOKED_AT];

@@ -1,6 +1,7 @@
 -- What a check finds of each segment of a dump, and its counts (this project's profile).
-use Rattle.std.specs.Prelude.{ℕ, ◌+◌, ◌==◌, ◌≡◌, nat_le, Bool, true, false, List, [], ◌∷◌, ◌++◌, codes, count_by, filter, length}
-use Rattle.std.specs.Prelude.{slice_index, take, decimal, if◌then◌else◌}
+use Rattle.std.specs.Prelude.{ℕ, ◌+◌, ◌-◌, ◌==◌, ◌≡◌, ◌&&◌, nat_le, not, Bool, true, false, List, [], ◌∷◌, ◌++◌, codes, count_by, filter}
+use Rattle.std.specs.Prelude.{length, slice_index, take, decimal, if◌then◌else◌, Option, Some, None}
+use Rattle.std.specs.List.{range_with_len}
 use Rattle.cartridge_spec.specs.Says.{unreadable_count}
 use Rattle.cartridge_spec.specs.Shape.{usable_places, usable_count, data_count}
 use Rattle.command_spec.specs.Lines.{place_line, number_line}
@@ -8,7 +9,8 @@ use Rattle.qic_base.specs.declared.tape.SectorView.{SectorView}
 use Rattle.dump_spec.specs.Cells.{cells_in}
 use Rattle.dump_spec.specs.Dump.{Dump}
 use Rattle.dump_spec.specs.Given.{CountAs, Case, OneBlock, OneWrong, Contradicts, AsRead, IsCase}
-use Rattle.dump_spec.specs.Pieces.{Layout, pieces}
+use Rattle.dump_spec.specs.Lists.{Span, span}
+use Rattle.dump_spec.specs.Pieces.{Layout, has_piece, pieces}
 use Rattle.dump_spec.specs.declared.form.Form.{Form}
 use Rattle.dump_spec.specs.declared.form.Form.TheVariants as forms
 
@@ -58,9 +60,12 @@ finding_line segment (LostSectors lost) = place_line (codes "lost") segment lost
 
 -- ---- all of them
 
+abbrev pub carries_data : Layout → (segment : ℕ) → Bool
+carries_data layout segment = nat_le 4 (usable_count (layout.masks segment))
+
 -- the segments that have a piece and carry data
 abbrev pub looked_at : Dump → Layout → List ℕ
-looked_at dump layout = filter (λ segment. nat_le 4 (usable_count (layout.masks segment))) (pieces dump layout)
+looked_at dump layout = filter (carries_data layout) (pieces dump layout)
 
 -- this is found of each of these segments
 abbrev pub FindInTurn : Dump → Layout → (zero_lost : Bool) → (segments : List ℕ) → List Finding → Type 0
@@ -80,6 +85,37 @@ is_unread Mismatch = true
 is_unread (LostSectors lost) = true
 is_unread _ = false
 
+-- ---- segments that lack
+
+-- those that are asked for: from the first one to the last data segment of a header
+abbrev pub wanted : (first : ℕ) → (last_data : Option ℕ) → List ℕ
+wanted first None = []
+wanted first (Some last) = range_with_len first (last + 1 - first)
+
+-- a segment that carries data has no piece
+abbrev pub lacks : Dump → Layout → (segment : ℕ) → Bool
+lacks dump layout segment = carries_data layout segment && not (has_piece dump layout segment)
+
+abbrev pub lacking_count : Dump → Layout → (segments : List ℕ) → ℕ
+lacking_count dump layout segments = count_by (lacks dump layout) segments
+
+-- a run of such segments with one more
+abbrev pub run_with : Option Span → (segment : ℕ) → Span
+run_with None segment = span segment segment
+run_with (Some run) segment = span run.from segment
+
+abbrev pub run_line : Option Span → List ℕ
+run_line None = []
+run_line (Some run) = place_line (codes "missing") run.from run.to
+
+-- a line for each longest run of them among those that carry data, behind the run that has begun
+unfoldable pub missing_lines : Dump → Layout → (begun : Option Span) → (segments : List ℕ) → List ℕ
+missing_lines dump layout begun [] = run_line begun
+missing_lines dump layout begun (segment ∷ segments) =
+    if lacks dump layout segment then missing_lines dump layout (Some (run_with begun segment)) segments
+    else if carries_data layout segment then run_line begun ++ missing_lines dump layout None segments
+    else missing_lines dump layout begun segments
+
 -- ---- the text
 
 abbrev pub finding_lines : (segments : List ℕ) → List Finding → List ℕ
@@ -91,7 +127,11 @@ abbrev pub check_line : (segments weak bad : ℕ) → List ℕ
 check_line segments weak bad =
     codes "check " ++ decimal segments ++ codes " " ++ decimal weak ++ codes " " ++ decimal bad ++ codes "\n"
 
-abbrev pub check_text : (segments : List ℕ) → List Finding → List ℕ
-check_text segments findings =
-    finding_lines segments findings
-    ++ check_line (length segments) (count_by is_weak findings) (count_by is_unread findings)
+-- those that lack are bad, too
+abbrev pub bad_segments : List Finding → (lacking : ℕ) → ℕ
+bad_segments findings lacking = count_by is_unread findings + lacking
+
+abbrev pub check_text : (segments : List ℕ) → List Finding → (missing : List ℕ) → (lacking : ℕ) → List ℕ
+check_text segments findings missing lacking =
+    finding_lines segments findings ++ missing
+    ++ check_line (length segments) (count_by is_weak findings) (bad_segments findings lacking)

@@ -21,17 +21,25 @@ abbrev pub without_zeros : SectorView → SectorView
 without_zeros (Holds bytes) = if list_all (λ b. b == 0) bytes then Lost else Holds bytes
 without_zeros view = view
 
--- some code block agrees with the cells, or with all that can be read but one
-abbrev pub HasReading : List SectorView → Type 0
-HasReading cells = (block : List (List ℕ)) × (wrong : Option ℕ) × Deep cells block wrong
+-- sectors of zero bytes alone
+abbrev pub are_zero : List (List ℕ) → Bool
+are_zero sectors = list_all (λ bytes. list_all (λ b. b == 0) bytes) sectors
 
--- The cells that count: as they are; or, where sectors of zero bytes may be lost ones, without those in a segment that no
--- code block is found for.
+-- some code block agrees with the cells, or with all that can be read but one, and has a byte that is not zero
+abbrev pub HasReading : List SectorView → Type 0
+HasReading cells = (block : List (List ℕ)) × (wrong : Option ℕ) × Deep cells block wrong × (are_zero block ≡ false)
+
+-- one does, and has zero bytes alone
+abbrev pub HasZeroReading : List SectorView → Type 0
+HasZeroReading cells = (block : List (List ℕ)) × (wrong : Option ℕ) × Deep cells block wrong × (are_zero block ≡ true)
+
+-- The cells that count: as they are; or, where sectors of zero bytes may be lost ones, without those, in the form of data in
+-- every segment, and in that of sectors in one that no code block is found for, or one of zero bytes alone.
 abbrev pub CountAs : Form → (zero_lost : Bool) → (cells counted : List SectorView) → Type 0
 CountAs forms.Sectors true cells counted =
-    (HasReading cells × (counted ≡ cells)) ⊎ (HasNoReading cells × (counted ≡ map without_zeros cells))
-CountAs forms.Sectors false cells counted = counted ≡ cells
-CountAs forms.Data zero_lost cells counted = counted ≡ cells
+    (HasReading cells × (counted ≡ cells)) ⊎ ((HasNoReading cells ⊎ HasZeroReading cells) × (counted ≡ map without_zeros cells))
+CountAs forms.Data true cells counted = counted ≡ map without_zeros cells
+CountAs form false cells counted = counted ≡ cells
 
 -- ---- the cases
 
@@ -100,6 +108,22 @@ pub record Gives (form : Form) (zero_lost : Bool) (cells : List SectorView) (giv
   pub is_case : IsCase form counted case
   pub are : given ≡ given_by case counted
 
+-- The code says that each sector stands at its place: the cells are of one block, at most two of them are lost, or one is
+-- wrong.
+abbrev pub is_confirmed : Case → (lost : ℕ) → Bool
+is_confirmed (OneBlock block) lost = nat_le lost 2
+is_confirmed (OneWrong block place) lost = true
+is_confirmed Contradicts lost = false
+is_confirmed AsRead lost = false
+
+-- whether it does of a segment with these cells
+pub record Confirms (form : Form) (zero_lost : Bool) (cells : List SectorView) (confirmed : Bool) : Type 0 where
+  pub counted : List SectorView
+  pub counts : CountAs form zero_lost cells counted
+  pub case : Case
+  pub is_case : IsCase form counted case
+  pub is : confirmed ≡ is_confirmed case (unreadable_count counted)
+
 -- the bytes of the sectors
 abbrev pub given_area : List Given → List (List ℕ)
 given_area given = map (λ g. g.bytes) given
@@ -107,6 +131,11 @@ given_area given = map (λ g. g.bytes) given
 abbrev pub is_sure : Mark → Bool
 is_sure Sure = true
 is_sure _ = false
+
+-- it is a zero byte in the place of a lost one
+abbrev pub is_filler : Mark → Bool
+is_filler Filled = true
+is_filler _ = false
 
 -- each byte of them is sure
 abbrev pub all_sure : List Given → Bool

@@ -1,7 +1,7 @@
 -- The header of a tape of any format code: its fields, its bad sector map or list, and what is refused of it (the fields and
 -- their offsets as the Linux ftape driver has them; format codes other than 2 were not tried on a tape).
-use Rattle.std.specs.Prelude.{ℕ, ◌-◌, ◌/◌, ◌%◌, ◌^◌, ◌==◌, ◌&&◌, ◌||◌, nat_le, nat_lt, not, Bool, List, [], ◌∷◌, drop, slice_range}
-use Rattle.std.specs.Prelude.{if◌then◌else◌, Option, Some, None}
+use Rattle.std.specs.Prelude.{ℕ, ◌-◌, ◌/◌, ◌%◌, ◌^◌, ◌==◌, ◌&&◌, ◌||◌, nat_le, nat_lt, not, Bool, List, [], ◌∷◌, drop}
+use Rattle.std.specs.Prelude.{slice_range, slice_set, if◌then◌else◌, Option, Some, None}
 use Rattle.std.specs.Int.{bit_at}
 use Rattle.std.specs.List.{list_any}
 use Rattle.cartridge_spec.specs.Header.{number_in, word_in, HeaderFault}
@@ -26,6 +26,13 @@ first_data area = if is_wide area then number_in area 242 4 else number_in area 
 abbrev pub last_data : List (List ℕ) → ℕ
 last_data area = if is_wide area then number_in area 246 4 else number_in area 12 2
 
+-- the segments of its two copies
+abbrev pub first_copy : List (List ℕ) → ℕ
+first_copy area = if is_wide area then number_in area 234 4 else number_in area 6 2
+
+abbrev pub second_copy : List (List ℕ) → ℕ
+second_copy area = if is_wide area then number_in area 238 4 else number_in area 8 2
+
 -- the date word of formatting
 abbrev pub format_date : List (List ℕ) → ℕ
 format_date area = number_in area 14 4
@@ -39,6 +46,11 @@ tracks area = number_in area 26 1
 -- 44 bytes
 abbrev pub label : List (List ℕ) → List ℕ
 label area = slice_range (sector_at area 0) 30 74
+
+-- a format code that is given stands in place of the header's own
+abbrev pub with_code : Option ℕ → List (List ℕ) → List (List ℕ)
+with_code None area = area
+with_code (Some code) area = slice_set area 0 (slice_set (sector_at area 0) 4 code)
 
 -- ---- what is refused, in this order
 

@@ -2,6 +2,8 @@ pub mod Answers
 pub mod Cells
 pub mod Check
 pub mod Dump
+pub mod First
+pub mod Front
 pub mod Given
 pub mod Header
 pub mod HeaderPlace
@@ -10,5 +12,8 @@ pub mod Lists
 pub mod Masks
 pub mod Output
 pub mod Pieces
+pub mod SlotLines
+pub mod Slots
 pub mod Table
 pub mod Volumes
+pub mod Warnings

@@ -45,14 +45,20 @@ header_lines (Some header) bad =
     ++ number_line (codes "last-data") (last_data header.area)
     ++ number_line (codes "bad-sectors") bad
 
--- a dump of so many bytes and pieces, and so many volumes
-abbrev pub info_text : Form → (bytes segments : ℕ) → Option FoundHeader → (bad volumes : ℕ) → List ℕ
-info_text form bytes segments header bad volumes =
+-- how many volumes there are, if there is a table
+abbrev pub volumes_line : Option ℕ → List ℕ
+volumes_line (Some count) = count_line count
+volumes_line None = codes "volumes none\n"
+
+-- a dump of so many bytes and pieces, the first of which is that of a segment, and so many volumes
+abbrev pub info_text : Form → (bytes segments first : ℕ) → Option FoundHeader → (bad : ℕ) → (volumes : Option ℕ) → List ℕ
+info_text form bytes segments first header bad volumes =
     codes "form " ++ form_text form ++ codes "\n"
     ++ number_line (codes "bytes") bytes
     ++ number_line (codes "segments") segments
+    ++ number_line (codes "first") first
     ++ header_lines header bad
-    ++ count_line volumes
+    ++ volumes_line volumes
 
 -- ---- list
 
@@ -82,9 +88,6 @@ list_text masks table volumes = listed_lines masks table 1 volumes ++ count_line
 abbrev pub said : List ℕ → List ℕ
 said words = codes "tape_salvage: " ++ words ++ codes "\n"
 
-abbrev pub warning_line : List ℕ
-warning_line = said (codes "the volume table is not sure")
-
 abbrev pub text_name : InputText → List ℕ
 text_name texts.Map = codes "the map"
 text_name texts.Missing = codes "the missing segments"
@@ -105,9 +108,14 @@ field_name FirstData = codes "first-data"
 field_name LastData = codes "last-data"
 field_name _ = []
 
--- the line of a status; of words that are none `clap` says what is wrong with them
+-- a field of a header is refused by its value
+abbrev pub foreign_line : ForeignField → (value : ℕ) → List ℕ
+foreign_line field value = said (codes "foreign " ++ field_name field ++ codes " " ++ decimal value)
+
+-- the line of a status; of words that are none `clap` says what is wrong with them, and of lost slots a warning tells
 abbrev pub status_line : Status → List ℕ
 status_line status.Done = []
+status_line status.SlotsLost = []
 status_line (status.NotAllSure sure unchecked filled) =
     said (decimal sure ++ codes " bytes read, " ++ decimal unchecked ++ codes " unchecked, " ++ decimal filled ++ codes " filled")
 status_line (status.Damaged weak bad) = said (decimal weak ++ codes " segments can be mended, " ++ decimal bad ++ codes " not")
@@ -115,7 +123,8 @@ status_line status.Usage = []
 status_line (status.TextFault text line) = said (codes "fault in line " ++ decimal line ++ codes " of " ++ text_name text)
 status_line (status.TooLong bytes) = said (decimal bytes ++ codes " bytes are too many")
 status_line status.NoHeader = said (codes "no header")
-status_line (status.Foreign field value) = said (codes "foreign " ++ field_name field ++ codes " " ++ decimal value)
+status_line status.NoTable = said (codes "no volume table")
+status_line (status.Foreign field value) = foreign_line field value
 status_line status.SureNotEmpty = said (codes "the sure map is not empty")
 status_line (status.NoVolume number count) = said (codes "no volume " ++ decimal number ++ codes " of " ++ decimal count)
 status_line (status.BadRange number) = said (codes "volume " ++ decimal number ++ codes " has a bad range")
@@ -126,12 +135,14 @@ status_line (status.CannotOpen file) = said (codes "cannot open " ++ file_name f
 
 abbrev pub exit_status : Status → ℕ
 exit_status status.Done = 0
+exit_status status.SlotsLost = 1
 exit_status (status.NotAllSure sure unchecked filled) = 1
 exit_status (status.Damaged weak bad) = 1
 exit_status status.Usage = 2
 exit_status (status.TextFault text line) = 3
 exit_status (status.TooLong bytes) = 4
 exit_status status.NoHeader = 6
+exit_status status.NoTable = 6
 exit_status (status.Foreign field value) = 7
 exit_status status.SureNotEmpty = 8
 exit_status (status.NoVolume number count) = 10

@@ -1,27 +1,41 @@
 -- The bytes that segments give, the mark of each, and the map of them (the map's text is that of GNU ddrescue's mapfile).
-use Rattle.std.specs.Prelude.{ℕ, ◌+◌, ◌-◌, ◌==◌, ◌≡◌, Bool, List, [], ◌∷◌, ◌++◌, codes, count_by, replicate, take}
+use Rattle.std.specs.Prelude.{ℕ, ◌+◌, ◌-◌, ◌==◌, ◌≡◌, ◌&&◌, ◌||◌, Bool, true, false, List, [], ◌∷◌, ◌++◌, codes, count_by, map}
+use Rattle.std.specs.Prelude.{replicate, take, if◌then◌else◌}
 use Rattle.std.specs.List.{flat_map, list_all, range_with_len}
 use Rattle.rescue_map.specs.Text.{joined, blocks_text}
 use Rattle.rescue_map.specs.declared.form.Block.{Block}
 use Rattle.dump_spec.specs.Cells.{cells_in}
 use Rattle.dump_spec.specs.Dump.{Dump}
-use Rattle.dump_spec.specs.Given.{Given, Gives, is_sure}
+use Rattle.dump_spec.specs.Given.{Given, Gives, Confirms, is_sure}
 use Rattle.dump_spec.specs.Pieces.{Layout}
 use Rattle.dump_spec.specs.declared.mark.Mark.{Mark}
 use Rattle.dump_spec.specs.declared.mark.Mark.TheVariants.{Sure, Unchecked, Filled}
 
 -- ---- what segments give
 
--- these segments give these data sectors, one segment behind the other
-abbrev pub GiveInTurn : Dump → Layout → (zero_lost : Bool) → (segments : List ℕ) → List Given → Type 0
-GiveInTurn dump layout zero_lost [] given = given ≡ []
-GiveInTurn dump layout zero_lost (segment ∷ segments) given =
-    (here : List Given) × (behind : List Given) × (given ≡ here ++ behind)
-    × Gives layout.form zero_lost (cells_in dump layout segment) here × GiveInTurn dump layout zero_lost segments behind
+-- a sector of which nothing says that it stands at its place
+abbrev pub doubted : Given → Given
+doubted given = record { bytes = given.bytes; mark = if is_sure given.mark then Unchecked else given.mark }
+
+abbrev pub given_with : (placed : Bool) → List Given → List Given
+given_with true given = given
+given_with false given = map doubted given
+
+-- These segments give these data sectors, one segment behind the other. Where the masks are not known, nothing is sure from the
+-- first one on that the code doesn't confirm; so far each is placed, or not.
+abbrev pub GiveInTurn : Dump → Layout → (zero_lost masks_known placed : Bool) → (segments : List ℕ) → List Given → Type 0
+GiveInTurn dump layout zero_lost masks_known placed [] given = given ≡ []
+GiveInTurn dump layout zero_lost masks_known placed (segment ∷ segments) given =
+    (here : List Given) × (confirmed : Bool) × (behind : List Given)
+    × (given ≡ given_with (placed && (masks_known || confirmed)) here ++ behind)
+    × Gives layout.form zero_lost (cells_in dump layout segment) here
+    × Confirms layout.form zero_lost (cells_in dump layout segment) confirmed
+    × GiveInTurn dump layout zero_lost masks_known (placed && (masks_known || confirmed)) segments behind
 
 -- those from one to another
-abbrev pub Give : Dump → Layout → (zero_lost : Bool) → (first last : ℕ) → List Given → Type 0
-Give dump layout zero_lost first last given = GiveInTurn dump layout zero_lost (range_with_len first (last + 1 - first)) given
+abbrev pub Give : Dump → Layout → (zero_lost masks_known : Bool) → (first last : ℕ) → List Given → Type 0
+Give dump layout zero_lost masks_known first last given =
+    GiveInTurn dump layout zero_lost masks_known true (range_with_len first (last + 1 - first)) given
 
 -- bytes, and the mark of each of them
 pub record Output : Type 0 where

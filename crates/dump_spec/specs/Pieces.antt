@@ -1,9 +1,8 @@
 -- The pieces of a dump: where each segment's lies, and which are there (this project's profile; the form of data is what the
 -- Linux ftape driver hands out).
-use Rattle.std.specs.Prelude.{ℕ, ◌-◌, ◌*◌, ◌&&◌, nat_le, nat_lt, not, Bool, List, [], ◌∷◌, length, filter, sum_by, count_by, if◌then◌else◌}
-use Rattle.std.specs.Prelude.{Option, Some, None}
+use Rattle.std.specs.Prelude.{ℕ, ◌-◌, ◌*◌, ◌&&◌, nat_le, nat_lt, not, Bool, List, length, filter, sum_by, count_by, if◌then◌else◌}
+use Rattle.std.specs.Prelude.{unwrap_or, slice_get}
 use Rattle.std.specs.List.{range_with_len}
-use Rattle.cartridge_spec.specs.Header.{has_signature}
 use Rattle.cartridge_spec.specs.Says.{whole_mask}
 use Rattle.cartridge_spec.specs.Shape.{data_count}
 use Rattle.dump_spec.specs.Dump.{Dump}
@@ -17,13 +16,6 @@ pub record Layout : Type 0 where
   pub first : ℕ
   pub missing : List Span
   pub masks : ℕ → ℕ
-
--- the segment of the first piece: the one that is asked for; else 0, but 2 in the form of data where the dump does not
--- begin with a header
-abbrev pub first_segment : Form → (asked : Option ℕ) → (bytes : List ℕ) → ℕ
-first_segment form (Some segment) bytes = segment
-first_segment forms.Sectors None bytes = 0
-first_segment forms.Data None bytes = if has_signature (bytes ∷ []) then 0 else 2
 
 -- the layout with all sectors usable
 abbrev pub all_usable : Layout → Layout
@@ -51,6 +43,10 @@ has_piece dump layout segment =
 -- the segments that have one, ascending
 abbrev pub pieces : Dump → Layout → List ℕ
 pieces dump layout = filter (has_piece dump layout) (range_with_len 0 65536)
+
+-- the segment of the first one; that of the layout where there is none
+abbrev pub first_piece : Dump → Layout → ℕ
+first_piece dump layout = unwrap_or (slice_get (pieces dump layout) 0) layout.first
 
 -- ---- the longest dump
 

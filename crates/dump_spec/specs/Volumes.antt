@@ -1,33 +1,14 @@
--- The volumes of a table: its slots, their ranges, what they carry and their lengths (the Linux zftape headers, for the
+-- The volumes of a table: their ranges, what they carry and their lengths (the Linux zftape headers, for the
 -- format codes other than 2 not tried on a tape; lengths and bad ranges are this project's profile).
-use Rattle.std.specs.Prelude.{ℕ, ◌+◌, ◌-◌, ◌*◌, ◌==◌, ◌&&◌, ◌||◌, nat_lt, nat_le, not, Bool, true, false, List, [], ◌∷◌, codes, length, map}
-use Rattle.std.specs.Prelude.{slice_index, sum_by, if◌then◌else◌}
+use Rattle.std.specs.Prelude.{ℕ, ◌+◌, ◌-◌, ◌==◌, ◌&&◌, ◌||◌, nat_lt, nat_le, not, Bool, true, false, List, [], ◌∷◌, slice_index, sum_by}
+use Rattle.std.specs.Prelude.{if◌then◌else◌, Option, Some, None}
 use Rattle.std.specs.Int.{bit_at}
 use Rattle.std.specs.List.{range_with_len}
+use Rattle.std.specs.Option.{option_map}
 use Rattle.cartridge_spec.specs.Shape.{capacity}
-use Rattle.cartridge_spec.specs.Table.{Entry, slot, is_used, entry_in}
-use Rattle.qic_base.specs.Field.{number_at, little_endian}
-
--- ---- slots
-
--- as many slots of 128 bytes as fit into the data
-abbrev pub slots : (area : List (List ℕ)) → List (List ℕ)
-slots area = map (slot area) (range_with_len 0 (8 * length area))
-
-abbrev pub has_letters : (letters bytes : List ℕ) → Bool
-has_letters letters bytes = number_at bytes 0 4 == little_endian letters
-
--- a slot that tells no volume and does not end the table
-abbrev pub is_passed : List ℕ → Bool
-is_passed bytes = has_letters (codes "XTBL") bytes || has_letters (codes "UTID") bytes || has_letters (codes "EXVT") bytes
-
--- those of volumes, up to the first slot that is neither a volume's nor passed over
-abbrev pub volume_slots : List (List ℕ) → List (List ℕ)
-volume_slots [] = []
-volume_slots (bytes ∷ more) =
-    if is_used bytes then bytes ∷ volume_slots more
-    else if is_passed bytes then volume_slots more
-    else []
+use Rattle.cartridge_spec.specs.Table.{Entry, entry_in}
+use Rattle.qic_base.specs.Field.{number_at}
+use Rattle.dump_spec.specs.Slots.{Slot, Used, LostSlot}
 
 -- ---- volumes
 
@@ -43,24 +24,37 @@ volume_in bytes = record { entry = entry_in bytes; compressed = bit_at (slice_in
 abbrev pub told_segments : List ℕ → ℕ
 told_segments bytes = number_at bytes 4 4
 
--- the volume of that slot, whose segments begin with this one
-abbrev pub counted_volume : (first : ℕ) → List ℕ → Volume
-counted_volume first bytes =
-    record {
-      entry = record (entry_in bytes) { start = first; end = first + told_segments bytes - 1 };
-      compressed = (volume_in bytes).compressed;
-    }
+-- the volume with this range, and all else as the slot tells it
+abbrev pub volume_at : (start end : ℕ) → List ℕ → Volume
+volume_at start end bytes =
+    record { entry = record (entry_in bytes) { start = start; end = end }; compressed = (volume_in bytes).compressed }
 
--- those of slots, one behind the other from a segment on
-abbrev pub counted_volumes : (first : ℕ) → List (List ℕ) → List Volume
-counted_volumes first [] = []
-counted_volumes first (bytes ∷ more) = counted_volume first bytes ∷ counted_volumes (first + told_segments bytes) more
+-- the volume of that slot, whose segments begin with this one; where none is known its range is bad
+abbrev pub counted_volume : (first : Option ℕ) → List ℕ → Volume
+counted_volume (Some first) bytes = volume_at first (first + told_segments bytes - 1) bytes
+counted_volume None bytes = volume_at 0 0 bytes
 
--- The volumes of a table in a segment, in order of their numbers from 1 on: the slots tell their first and last segments, or how
--- many they have, where the first one begins behind the table.
-abbrev pub volumes_of : (counts : Bool) → (segment : ℕ) → (area : List (List ℕ)) → List Volume
-volumes_of false segment area = map volume_in (volume_slots (slots area))
-volumes_of true segment area = counted_volumes (segment + 1) (volume_slots (slots area))
+-- the volume of a slot: slots tell its first and its last segment, or count its segments from one on
+abbrev pub told_volume : (counts : Bool) → (first : Option ℕ) → List ℕ → Volume
+told_volume false first bytes = volume_in bytes
+told_volume true first bytes = counted_volume first bytes
+
+-- the segment that is counted from behind a slot: behind a lost one none is known
+abbrev pub first_behind : (first : Option ℕ) → Slot → Option ℕ
+first_behind first (Used bytes) = option_map (λ segment. segment + told_segments bytes) first
+first_behind first (LostSlot zero) = None
+first_behind first slot = first
+
+-- the volumes of slots, counted from this segment on
+abbrev pub volumes_from : (counts : Bool) → (first : Option ℕ) → List Slot → List Volume
+volumes_from counts first [] = []
+volumes_from counts first (Used bytes ∷ more) =
+    told_volume counts first bytes ∷ volumes_from counts (first_behind first (Used bytes)) more
+volumes_from counts first (slot ∷ more) = volumes_from counts (first_behind first slot) more
+
+-- those of a table in this segment, in order of their numbers from 1 on; the first one is counted from behind the table
+abbrev pub volumes_of : (counts : Bool) → (table : ℕ) → List Slot → List Volume
+volumes_of counts table slots = volumes_from counts (Some (table + 1)) slots
 
 -- ---- ranges and lengths
 

@@ -9,7 +9,9 @@ pub enum Command {
     Info,
     /// The volumes of its table.
     List,
-    /// The segments that do not read, or only just.
+    /// The slots of its table.
+    Slots,
+    /// The segments that do not read, or only just, and those that lack.
     Check,
     /// The bytes of a volume, counted from 1; all that its segments carry where it is asked for whole.
     Volume { number: u32, whole: bool },
@@ -23,7 +25,9 @@ pub struct Asked {
     pub form: Form,
     /// The segment of the first piece of the dump, where it is given.
     pub first: Option<u16>,
-    /// Whether readable sectors of zero bytes count as lost in a segment that contradicts itself.
+    /// The format code that stands in place of that of the header, 2 to 6, where it is given.
+    pub format_code: Option<u8>,
+    /// Whether readable sectors of zero bytes may count as lost.
     pub zero_lost: bool,
     pub command: Command,
 }

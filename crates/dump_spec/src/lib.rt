@@ -6,8 +6,10 @@ mod asked;
 mod form;
 mod mark;
 mod status;
+mod warnings;
 
 pub use asked::{Asked, Command};
 pub use form::Form;
 pub use mark::Mark;
 pub use status::{InputText, OpenedFile, Status};
+pub use warnings::{RefusedField, StrayHeader, Warnings};

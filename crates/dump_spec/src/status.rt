@@ -26,6 +26,8 @@ pub enum OpenedFile {
 pub enum Status {
     /// It was done; of bytes all are sure, and of segments all are well.
     Done,
+    /// The slots of the volume table were told, and some of them are lost; a warning says how many.
+    SlotsLost,
     /// The bytes were written, so many with each mark, and not all are sure.
     NotAllSure {
         sure: u64,
@@ -50,6 +52,8 @@ pub enum Status {
     },
     /// There is neither a header nor a volume table.
     NoHeader,
+    /// There is a header, and no volume table.
+    NoTable,
     /// A field of the header has a value that is not taken.
     Foreign {
         field: ForeignField,

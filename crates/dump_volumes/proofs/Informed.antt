@@ -1,8 +1,8 @@
 -- What is told of a header.
 use Rattle.std.proofs.Common.{◌≡◌, ℕ, List, ◌++◌, codes, Option, Some, None, refl, sym, ap, ◌∙◌, append_assoc}
-use Rattle.command_spec.specs.Lines.{count_line, date_text, name_text, number_line}
+use Rattle.command_spec.specs.Lines.{date_text, name_text, number_line}
 use Rattle.dump_spec.specs.HeaderPlace.{FoundHeader}
-use Rattle.dump_spec.specs.Lines.{form_text, header_lines, info_text, place_text}
+use Rattle.dump_spec.specs.Lines.{form_text, header_lines, info_text, place_text, volumes_line}
 use Rattle.dump_spec.specs.declared.form.Form.{Form}
 use Rattle.dump_header.specs.declared.fields.DumpHeader.{DumpHeader}
 use Rattle.dump_volumes.specs.Told.{IsTold}
@@ -18,18 +18,18 @@ track_part fields =
     number_line (codes "format-code") fields.format_code ++ number_line (codes "tracks") fields.tracks
     ++ number_line (codes "segments-per-track") fields.segments_per_track
 
-abbrev pub data_part : DumpHeader → (bad volumes : ℕ) → List ℕ
+abbrev pub data_part : DumpHeader → (bad : ℕ) → (volumes : Option ℕ) → List ℕ
 data_part fields bad volumes =
     number_line (codes "first-data") fields.first_data ++ number_line (codes "last-data") fields.last_data
-    ++ number_line (codes "bad-sectors") bad ++ count_line volumes
+    ++ number_line (codes "bad-sectors") bad ++ volumes_line volumes
 
 seven : (l a b c d e f v : List ℕ) → l ++ (a ++ b ++ c ++ (d ++ e ++ f ++ v)) ≡ l ++ a ++ b ++ c ++ d ++ e ++ f ++ v
 seven l a b c d e f v = simp append_assoc
 
 -- the parts are the lines of the header, and the last line
-pub header_parts : (found : FoundHeader) (header : ToldHeader) (bad volumes : ℕ) → IsTold (Some found) (Some header) →
+pub header_parts : (found : FoundHeader) (header : ToldHeader) (bad : ℕ) (volumes : Option ℕ) → IsTold (Some found) (Some header) →
     label_part header ++ (track_part header.fields ++ data_part header.fields bad volumes)
-    ≡ header_lines (Some found) bad ++ count_line volumes
+    ≡ header_lines (Some found) bad ++ volumes_line volumes
 header_parts found header bad volumes told =
     let code = told.0.format_code in
     let first = told.0.first_data in
@@ -41,7 +41,7 @@ header_parts found header bad volumes told =
     seven (label_part header) (number_line (codes "format-code") header.fields.format_code)
     (number_line (codes "tracks") header.fields.tracks) (number_line (codes "segments-per-track") header.fields.segments_per_track)
     (number_line (codes "first-data") header.fields.first_data) (number_line (codes "last-data") header.fields.last_data)
-    (number_line (codes "bad-sectors") bad) (count_line volumes)
+    (number_line (codes "bad-sectors") bad) (volumes_line volumes)
     ∙ rw (code, first, last, date, segments, tracks, label, ← told.1) refl
 
 pub none_told : (found : Option FoundHeader) → IsTold found None → found ≡ None
@@ -55,12 +55,14 @@ some_told (Some found) header told = (found, refl, told)
 
 -- ---- all of the text
 
-abbrev pub dump_part : Form → (bytes segments : ℕ) → List ℕ
-dump_part form bytes segments =
+abbrev pub dump_part : Form → (bytes segments first : ℕ) → List ℕ
+dump_part form bytes segments first =
     codes "form " ++ form_text form ++ codes "\n" ++ number_line (codes "bytes") bytes ++ number_line (codes "segments") segments
+    ++ number_line (codes "first") first
 
-pub info_parts : (form : Form) (bytes segments : ℕ) (found is : Option FoundHeader) (bad volumes : ℕ) → found ≡ is →
-    dump_part form bytes segments ++ (header_lines is bad ++ count_line volumes) ≡ info_text form bytes segments found bad volumes
-info_parts form bytes segments found is bad volumes e =
-    sym (append_assoc (dump_part form bytes segments) (header_lines is bad) (count_line volumes))
-    ∙ ap (λ (f : Option FoundHeader). info_text form bytes segments f bad volumes) (sym e)
+pub info_parts : (form : Form) (bytes segments first : ℕ) (found is : Option FoundHeader) (bad : ℕ) (volumes : Option ℕ) → found ≡ is →
+    dump_part form bytes segments first ++ (header_lines is bad ++ volumes_line volumes)
+    ≡ info_text form bytes segments first found bad volumes
+info_parts form bytes segments first found is bad volumes e =
+    sym (append_assoc (dump_part form bytes segments first) (header_lines is bad) (volumes_line volumes))
+    ∙ ap (λ (f : Option FoundHeader). info_text form bytes segments first f bad volumes) (sym e)

@@ -2,29 +2,10 @@
 use Rattle.std.proofs.Common.{◌≡◌, ℕ, suc, ◌+◌, ◌-◌, ◌<◌, ◌==◌, ◌⊎◌, inl, inr, Bool, true, false, List, [], ◌∷◌}
 use Rattle.std.proofs.Common.{drop, length, slice_get, Some, None, refl, sym, ap, ◌∙◌, arith}
 use Rattle.std.proofs.lemmas.Bool.{ne_eqb}
-use Rattle.std.proofs.lemmas.List.{length-drop, length-map, drop_more}
+use Rattle.std.proofs.lemmas.List.{length-drop, drop_more}
 use Rattle.std.proofs.lemmas.Option.{slice_get-get_or, slice_get_past}
 use Rattle.dump_spec.specs.Answers.{numbered}
-use Rattle.dump_spec.specs.Volumes.{slots, volume_slots, volumes_of, volume_in}
 use Rattle.dump_spec.specs.Volumes as volumes
-use Rattle.dump_volumes.specs.Volume.{first_behind, told_volumes}
-
-pub told_all : (counts : Bool) (segment : ℕ) (area : List (List ℕ)) →
-    told_volumes counts (segment + 1) (volume_slots (slots area)) ≡ volumes_of counts segment area
-told_all false segment area = refl
-told_all true segment area = refl
-
--- each slot of a volume tells one
-told_count : (counts : Bool) (first : ℕ) (used : List (List ℕ)) → length (told_volumes counts first used) ≡ length used
-told_count false first used = length-map used volume_in
-told_count true first [] = refl
-told_count true first (bytes ∷ more) = ap suc (told_count true (first_behind true first bytes) more)
-
-pub count_same : (counts : Bool) (segment : ℕ) (area : List (List ℕ)) →
-    length (volumes_of false 0 area) ≡ length (volumes_of counts segment area)
-count_same counts segment area =
-    told_count false 1 (volume_slots (slots area)) ∙ sym (ap length (sym (told_all counts segment area))
-    ∙ told_count counts (segment + 1) (volume_slots (slots area)))
 
 -- ---- so many volumes were given
 

@@ -2,9 +2,9 @@
 
 ghost use Rattle.std.specs.Prelude.{◌≡◌, ◌+◌, ◌≤◌, ◌++◌, Option, Some, codes, length};
 ghost use Rattle.qic_base.specs.SinkCalls.{Writes};
-ghost use Rattle.command_spec.specs.Lines.{count_line, date_text, name_text, number_line};
+ghost use Rattle.command_spec.specs.Lines.{date_text, name_text, number_line};
 ghost use Rattle.dump_spec.specs.HeaderPlace.{FoundHeader};
-ghost use Rattle.dump_spec.specs.Lines.{form_text, header_lines, info_text, place_text};
+ghost use Rattle.dump_spec.specs.Lines.{form_text, header_lines, info_text, place_text, volumes_line};
 ghost use Rattle.dump_volumes.specs.Told.{IsTold};
 
 use dump_header::DumpHeader;
@@ -44,10 +44,10 @@ fn form_text(form: Form) -> &'static [u8]
     }
 }
 
-/// The form, the length in bytes and the number of pieces.
-fn dump_text(form: Form, bytes: u64, segments: u32) -> TextLine
+/// The form, the length in bytes, the number of pieces and the segment of the first one.
+fn dump_text(form: Form, bytes: u64, segments: u32, first: u16) -> TextLine
     ensures { result ≡ codes "form " ++ form_text form ++ codes "\n" ++ number_line (codes "bytes") bytes
-        ++ number_line (codes "segments") segments }
+        ++ number_line (codes "segments") segments ++ number_line (codes "first") first }
 {
     let mut lines = TextLine::new();
     lines.push_text(b"form ");
@@ -55,6 +55,7 @@ fn dump_text(form: Form, bytes: u64, segments: u32) -> TextLine
     lines.push_text(b"\n");
     push_line(&mut lines, b"bytes", bytes);
     push_line(&mut lines, b"segments", u64::from(segments));
+    push_line(&mut lines, b"first", u64::from(first));
     lines
 }
 
@@ -103,31 +104,42 @@ fn track_text(fields: &DumpHeader) -> TextLine
     lines
 }
 
+/// Puts how many volumes there are, if there is a table, behind others.
+fn push_volumes(lines: &mut TextLine, volumes: Option<u32>)
+    requires { length lines.old + 30 ≤ 160 }
+    ensures { lines.new ≡ lines.old ++ volumes_line volumes }
+{
+    match volumes {
+        Some(volumes) => push_line(lines, b"volumes", u64::from(volumes)),
+        None => lines.push_text(b"volumes none\n"),
+    }
+}
+
 /// The segments of data, and the numbers of bad sectors and of volumes.
-fn data_text(fields: &DumpHeader, bad: u32, volumes: u32) -> TextLine
+fn data_text(fields: &DumpHeader, bad: u32, volumes: Option<u32>) -> TextLine
     ensures { result ≡ number_line (codes "first-data") fields.now.first_data ++ number_line (codes "last-data") fields.now.last_data
-        ++ number_line (codes "bad-sectors") bad ++ count_line volumes }
+        ++ number_line (codes "bad-sectors") bad ++ volumes_line volumes }
 {
     let mut lines = TextLine::new();
     push_line(&mut lines, b"first-data", u64::from(fields.first_data));
     push_line(&mut lines, b"last-data", u64::from(fields.last_data));
     push_line(&mut lines, b"bad-sectors", u64::from(bad));
-    push_line(&mut lines, b"volumes", u64::from(volumes));
+    push_volumes(&mut lines, volumes);
     lines
 }
 
 /// The number of volumes, where there is no header.
-fn bare_text(volumes: u32) -> TextLine
-    ensures { result ≡ codes "header none\n" ++ count_line volumes }
+fn bare_text(volumes: Option<u32>) -> TextLine
+    ensures { result ≡ codes "header none\n" ++ volumes_line volumes }
 {
     let mut lines = TextLine::new();
     lines.push_text(b"header none\n");
-    push_line(&mut lines, b"volumes", u64::from(volumes));
+    push_volumes(&mut lines, volumes);
     lines
 }
 
 /// Writes two texts.
-fn write_two<K: Sink>(first: &TextLine, second: &TextLine, sink: &mut K) -> Result<(), SinkFailed>
+pub fn write_two<K: Sink>(first: &TextLine, second: &TextLine, sink: &mut K) -> Result<(), SinkFailed>
     ensures { Writes K.means sink.old sink.new (first.now ++ second.now) result }
 {
     match write_text(first.bytes(), sink) {
@@ -140,11 +152,11 @@ fn write_two<K: Sink>(first: &TextLine, second: &TextLine, sink: &mut K) -> Resu
 fn write_header<K: Sink>(
     header: &ToldHeader,
     bad: u32,
-    volumes: u32,
+    volumes: Option<u32>,
     sink: &mut K,
 ) -> Result<(), SinkFailed>
     ensures { (found : FoundHeader) → IsTold (Some found) (Some header.now) →
-        Writes K.means sink.old sink.new (header_lines (Some found) bad ++ count_line volumes) result }
+        Writes K.means sink.old sink.new (header_lines (Some found) bad ++ volumes_line volumes) result }
 {
     match write_text(label_text(header).bytes(), sink) {
         Ok(()) => write_two(
@@ -156,21 +168,22 @@ fn write_header<K: Sink>(
     }
 }
 
-/// Writes what is told of a dump of this form, length in bytes and number of pieces, of its header, if there is one, and how
-/// many sectors are bad and how many volumes there are. A failure leaves a front of the text written.
+/// Writes what is told of a dump of this form, length in bytes, number of pieces and segment of the first one, of its header, if
+/// there is one, and how many sectors are bad and, if there is a table, how many volumes there are. A failure leaves a front of the text written.
 pub fn write_info<K: Sink>(
     form: Form,
     bytes: u64,
     segments: u32,
+    first: u16,
     header: Option<ToldHeader>,
     bad: u32,
-    volumes: u32,
+    volumes: Option<u32>,
     sink: &mut K,
 ) -> Result<(), SinkFailed>
     ensures { (found : Option FoundHeader) → IsTold found header →
-        Writes K.means sink.old sink.new (info_text form bytes segments found bad volumes) result }
+        Writes K.means sink.old sink.new (info_text form bytes segments first found bad volumes) result }
 {
-    let front = dump_text(form, bytes, segments);
+    let front = dump_text(form, bytes, segments, first);
     match header {
         Some(header) => match write_text(front.bytes(), sink) {
             Ok(()) => write_header(&header, bad, volumes, sink),

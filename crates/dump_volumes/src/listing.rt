@@ -1,14 +1,16 @@
 //! The volumes of a table, listed.
 
-ghost use Rattle.std.specs.Prelude.{◌≡◌, ◌≤◌, ℕ, length};
+ghost use Rattle.std.specs.Prelude.{◌≡◌, ◌≤◌, ◌*◌, ℕ, Bool, length};
 ghost use Rattle.qic_base.specs.SinkCalls.{Writes};
 ghost use Rattle.dump_spec.specs.Lines.{bad_volume_line, listed_line, list_text};
 ghost use Rattle.dump_spec.specs.Volumes.{volumes_of};
 ghost use Rattle.command_spec.specs.Lines.{volume_line};
 ghost use Rattle.dump_volumes.specs.Masks.{HoldMasks};
+ghost use Rattle.dump_volumes.specs.Slotted.{slots_of};
 ghost use Rattle.dump_volumes.specs.Volume.{volume_of};
 
 use crate::lengths::{has_bad_range, length_of};
+use crate::slots::TableSlots;
 use crate::volume::Volume;
 use crate::walk::VolumeWalk;
 use qic_base::{Sector, Sink, SinkFailed, write_text};
@@ -61,22 +63,24 @@ fn listed_text(masks: &[u32], table: u16, number: u8, volume: &Volume) -> TextLi
     }
 }
 
-/// Writes a line for each volume of a table of at most 29 sectors in this segment, by the masks of all 65,536 segments, and how
+/// Writes a line for each volume among the slots of at most 29 sectors in this segment, by the masks of all 65,536 segments, and how
 /// many there are. `counts` says whether slots count the segments of volumes. A failure leaves a front of the text written.
 pub fn write_list<K: Sink>(
     masks: &[u32],
     counts: bool,
     table: u16,
     area: &[Sector],
+    slots: &TableSlots,
     sink: &mut K,
 ) -> Result<(), SinkFailed>
     requires masks { length masks.now ≡ 65536 }
     requires sectors { length area.now ≤ 29 }
-    ensures { (of : ℕ → ℕ) → HoldMasks masks.now of →
-        Writes K.means sink.old sink.new (list_text of table (volumes_of counts table area.now)) result }
+    requires within { slots.now.count ≤ 8 * length area.now }
+    ensures { (of : ℕ → ℕ) (zero : ℕ → Bool) → HoldMasks masks.now of →
+        Writes K.means sink.old sink.new (list_text of table (volumes_of counts table (slots_of area.now slots.now zero))) result }
 {
     let mut walk = VolumeWalk::new(counts, table);
-    while let Some(volume) = walk.next(area) {
+    while let Some(volume) = walk.next(area, slots) {
         let line = listed_text(masks, table, walk.number(), &volume);
         if let Err(fault) = write_text(line.bytes(), sink) {
             return Err(fault);

@@ -2,7 +2,7 @@
 
 ghost use Rattle.std.specs.Prelude.{◌≡◌, ◌≤◌, length};
 ghost use Rattle.qic_base.specs.SinkCalls.{Writes};
-ghost use Rattle.dump_spec.specs.Lines.{exit_status, field_name, file_name, said, status_line, text_name, warning_line};
+ghost use Rattle.dump_spec.specs.Lines.{exit_status, field_name, file_name, foreign_line, said, status_line, text_name};
 ghost use Rattle.dump_spec.specs.declared.status.Status.TheVariants as ends;
 
 use dump_spec::{InputText, OpenedFile, Status};
@@ -15,11 +15,11 @@ pub fn exit_status(status: &Status) -> u8
 {
     match status {
         Status::Done => 0,
-        Status::NotAllSure { .. } | Status::Damaged { .. } => 1,
+        Status::SlotsLost | Status::NotAllSure { .. } | Status::Damaged { .. } => 1,
         Status::Usage => 2,
         Status::TextFault { .. } => 3,
         Status::TooLong { .. } => 4,
-        Status::NoHeader => 6,
+        Status::NoHeader | Status::NoTable => 6,
         Status::Foreign { .. } => 7,
         Status::SureNotEmpty => 8,
         Status::NoVolume { .. } | Status::BadRange { .. } => 10,
@@ -37,18 +37,11 @@ pub fn write_status<K: Sink>(status: &Status, sink: &mut K) -> Result<(), SinkFa
     write_text(status_text(status).bytes(), sink)
 }
 
-/// Writes the line of a table that is not sure.
-pub fn write_warning<K: Sink>(sink: &mut K) -> Result<(), SinkFailed>
-    ensures { Writes K.means sink.old sink.new warning_line result }
-{
-    write_text(fixed_text(b"the volume table is not sure").bytes(), sink)
-}
-
 fn status_text(status: &Status) -> TextLine
     ensures { result ≡ status_line status.now }
 {
     match *status {
-        Status::Done | Status::Usage => TextLine::new(),
+        Status::Done | Status::SlotsLost | Status::Usage => TextLine::new(),
         Status::NotAllSure {
             sure,
             unchecked,
@@ -58,6 +51,7 @@ fn status_text(status: &Status) -> TextLine
         Status::TextFault { text, line } => fault_text(text, line),
         Status::TooLong { bytes } => long_text(bytes),
         Status::NoHeader => fixed_text(b"no header"),
+        Status::NoTable => fixed_text(b"no volume table"),
         Status::Foreign { field, value } => foreign_text(field, value),
         Status::SureNotEmpty => fixed_text(b"the sure map is not empty"),
         Status::NoVolume { number, count } => no_volume_text(number, count),
@@ -70,7 +64,7 @@ fn status_text(status: &Status) -> TextLine
 }
 
 /// A line of the program that has no numbers.
-fn fixed_text(words: &[u8]) -> TextLine
+pub fn fixed_text(words: &[u8]) -> TextLine
     requires { length words.now ≤ 100 }
     ensures { result ≡ said words.now }
 {
@@ -156,8 +150,9 @@ fn field_name(field: ForeignField) -> &'static [u8]
     }
 }
 
-fn foreign_text(field: ForeignField, value: u32) -> TextLine
-    ensures { result ≡ status_line (ends.Foreign field value) }
+/// The line of a field of a header that is refused by its value.
+pub fn foreign_text(field: ForeignField, value: u32) -> TextLine
+    ensures { result ≡ foreign_line field value }
 {
     let mut line = TextLine::new();
     line.push_text(b"tape_salvage: foreign ");

@@ -1,11 +1,14 @@
 //! A volume, as a slot tells it.
 
-ghost use Rattle.std.specs.Prelude.{◌≡◌, ◌<◌, ◌≤◌, ◌+◌, ◌^◌, length};
-ghost use Rattle.dump_spec.specs.Volumes.{told_segments, counted_volume, volume_in};
-ghost use Rattle.dump_volumes.specs.Volume.{volume_of, told_volume, first_behind};
+ghost use Rattle.std.specs.Prelude.{◌≡◌, ◌<◌, ◌≤◌, ◌+◌, ◌*◌, ◌^◌, ℕ, Bool, IfSome, length};
+ghost use Rattle.dump_spec.specs.Slots.{slot_in};
+ghost use Rattle.dump_spec.specs.Volumes.{told_segments, counted_volume, told_volume, first_behind, volume_in};
+ghost use Rattle.dump_volumes.specs.Volume.{volume_of};
+ghost use Rattle.qic_base.specs.CartridgeTerms.{is_lost};
 
-use qic_base::read_u32;
-use volume_table::{Entry, entry_at};
+use crate::slots::{SlotKind, slot_kind};
+use qic_base::{LostSet, Sector, read_u32};
+use volume_table::{Entry, entry_at, slot_at};
 
 /// A volume of a dump's table. Its range may be bad.
 #[derive(Clone, Copy, Drop)]
@@ -53,24 +56,28 @@ fn told_segments(bytes: &[u8]) -> u64
     u64::from(read_u32(bytes, 4))
 }
 
-/// The volume of a slot that tells how many segments it has, which begin with this one.
-fn counted_volume(first: u64, bytes: &[u8]) -> Volume
+/// The volume of a slot that tells how many segments it has, which begin with this one; where none is known its range is bad.
+fn counted_volume(first: Option<u64>, bytes: &[u8]) -> Volume
     requires slot { length bytes.now ≡ 128 }
-    requires near { first < 2 ^ 48 }
+    requires near { IfSome first (λ n. n < 2 ^ 48) }
     ensures { volume_of result ≡ counted_volume first bytes.now }
 {
+    let (start, end) = match first {
+        Some(first) => (first, (first + told_segments(bytes)).saturating_sub(1)),
+        None => (0, 0),
+    };
     Volume {
-        start: first,
-        end: (first + told_segments(bytes)).saturating_sub(1),
+        start,
+        end,
         entry: entry_at(bytes),
         compressed: is_compressed(bytes),
     }
 }
 
 /// The volume of a slot. Where slots count the segments, its own begin with `first`.
-pub fn read_volume(counts: bool, first: u64, bytes: &[u8]) -> Volume
+pub fn read_volume(counts: bool, first: Option<u64>, bytes: &[u8]) -> Volume
     requires slot { length bytes.now ≡ 128 }
-    requires near { first < 2 ^ 48 }
+    requires near { IfSome first (λ n. n < 2 ^ 48) }
     ensures { volume_of result ≡ told_volume counts first bytes.now }
 {
     if counts {
@@ -80,16 +87,19 @@ pub fn read_volume(counts: bool, first: u64, bytes: &[u8]) -> Volume
     }
 }
 
-/// The segment with which the next volume begins, where slots count the segments.
-pub fn first_behind(counts: bool, first: u64, bytes: &[u8]) -> u64
-    requires slot { length bytes.now ≡ 128 }
-    requires near { first < 2 ^ 48 }
-    ensures behind { result ≡ first_behind counts first bytes.now }
-    ensures near { result ≤ first + 2 ^ 32 }
+/// The segment that is counted from behind a slot of data of which some sectors are lost; behind a lost slot none is known.
+pub fn first_behind(area: &[Sector], lost: LostSet, at: u8, first: Option<u64>) -> Option<u64>
+    requires within { at < 8 * length area.now }
+    requires near { IfSome first (λ n. n < 2 ^ 48) }
+    ensures behind { (zero : ℕ → Bool) → result ≡ first_behind first (slot_in (is_lost lost) zero area.now at) }
+    ensures near { (most : ℕ) → IfSome first (λ n. n ≤ most) → IfSome result (λ n. n ≤ most + 2 ^ 32) }
 {
-    if counts {
-        first + told_segments(bytes)
-    } else {
-        first
+    match slot_kind(area, lost, at) {
+        SlotKind::Used => match first {
+            Some(first) => Some(first + told_segments(slot_at(area, at))),
+            None => None,
+        },
+        SlotKind::Lost => None,
+        SlotKind::Passed | SlotKind::Free | SlotKind::Other => first,
     }
 }

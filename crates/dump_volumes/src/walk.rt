@@ -1,12 +1,13 @@
 //! The volumes of a table, one by one.
 
 ghost use Rattle.std.specs.Prelude.{◌≡◌, ◌≤◌, ◌+◌, ◌*◌, ◌^◌, ℕ, Bool, length};
-ghost use Rattle.std.specs.Option.{option_map};
+ghost use Rattle.std.specs.Option.{ForSome, option_map};
 ghost use Rattle.dump_spec.specs.Answers.{numbered};
 ghost use Rattle.dump_spec.specs.Volumes.{volumes_of};
+ghost use Rattle.dump_volumes.specs.Slotted.{slots_of};
 ghost use Rattle.dump_volumes.specs.Volume.{volume_of};
 
-use crate::slots::next_slot;
+use crate::slots::{TableSlots, is_volume, slot_kind};
 use crate::volume::{Volume, first_behind, read_volume};
 use qic_base::Sector;
 use volume_table::slot_at;
@@ -17,45 +18,53 @@ pub struct VolumeWalk {
     counts: bool,
     slot: u8,
     given: u8,
-    first: u64,
+    first: Option<u64>,
     ghost slot_within: { slot ≤ 232 },
     ghost given_within: { given ≤ slot },
-    ghost near: { first ≤ 2 ^ 16 + slot * 2 ^ 32 },
+    ghost near: { ForSome first (λ n. n ≤ 2 ^ 16 + slot * 2 ^ 32) },
 }
 
 impl VolumeWalk {
     ghost use Rattle.std.specs.Prelude.{List};
+    ghost use Rattle.dump_spec.specs.Slots.{Slot};
     ghost use Rattle.dump_volumes.specs.Left.{left_of, Steps, given_by};
 
     /// Before the first volume of a table in this segment; `counts` says whether its slots count the segments of volumes, as
     /// those of the format code 6 do.
     pub fn new(counts: bool, table: u16) -> VolumeWalk
-        ensures left { (area : List (List ℕ)) → left_of result area ≡ volumes_of counts table area }
+        ensures left { (slots : List Slot) → left_of result slots ≡ volumes_of counts table slots }
         ensures none { given_by result ≡ 0 }
     {
         VolumeWalk {
             counts,
             slot: 0,
             given: 0,
-            first: u64::from(table) + 1,
+            first: Some(u64::from(table) + 1),
         }
     }
 
-    /// The next volume of a table of at most 29 sectors, if there is one more.
-    pub fn next(&mut self, area: &[Sector]) -> Option<Volume>
-        requires { length area.now ≤ 29 }
-        ensures { Steps area.now self.old self.new result }
+    /// The next volume among the slots of at most 29 sectors, if there is one more.
+    pub fn next(&mut self, area: &[Sector], slots: &TableSlots) -> Option<Volume>
+        requires sectors { length area.now ≤ 29 }
+        requires within { slots.now.count ≤ 8 * length area.now }
+        ensures { (zero : ℕ → Bool) → Steps (slots_of area.now slots.now zero) self.old self.new result }
     {
-        let at = next_slot(area, self.slot)?;
-        let bytes = slot_at(area, at);
-        let volume = read_volume(self.counts, self.first, bytes);
-        *self = VolumeWalk {
-            counts: self.counts,
-            slot: at + 1,
-            given: self.given + 1,
-            first: first_behind(self.counts, self.first, bytes),
-        };
-        Some(volume)
+        let mut first = self.first;
+        for at in self.slot..slots.count {
+            let behind = first_behind(area, slots.lost, at, first);
+            if is_volume(slot_kind(area, slots.lost, at)) {
+                let volume = read_volume(self.counts, first, slot_at(area, at));
+                *self = VolumeWalk {
+                    counts: self.counts,
+                    slot: at + 1,
+                    given: self.given + 1,
+                    first: behind,
+                };
+                return Some(volume);
+            }
+            first = behind;
+        }
+        None
     }
 
     /// The number of the volume that was given last, counted from 1; 0 where none was given.
@@ -66,23 +75,21 @@ impl VolumeWalk {
     }
 }
 
-/// How many volumes a table of at most 29 sectors has, 0 to 232, in whatever segment it is.
-pub fn count_volumes(area: &[Sector]) -> u8
-    requires { length area.now ≤ 29 }
-    ensures { (counts : Bool) (segment : ℕ) → result ≡ length (volumes_of counts segment area.now) }
-{
-    let mut walk = VolumeWalk::new(false, 0);
-    while let Some(_volume) = walk.next(area) {}
-    walk.number()
-}
-
-/// The volume with a number from 1 on, of a table of at most 29 sectors in this segment.
-pub fn numbered(counts: bool, table: u16, area: &[Sector], number: u32) -> Option<Volume>
-    requires { length area.now ≤ 29 }
-    ensures { option_map volume_of result ≡ numbered (volumes_of counts table area.now) number }
+/// The volume with a number from 1 on, among the slots of at most 29 sectors in this segment.
+pub fn numbered(
+    counts: bool,
+    table: u16,
+    area: &[Sector],
+    slots: &TableSlots,
+    number: u32,
+) -> Option<Volume>
+    requires sectors { length area.now ≤ 29 }
+    requires within { slots.now.count ≤ 8 * length area.now }
+    ensures { (zero : ℕ → Bool) →
+        option_map volume_of result ≡ numbered (volumes_of counts table (slots_of area.now slots.now zero)) number }
 {
     let mut walk = VolumeWalk::new(counts, table);
-    while let Some(volume) = walk.next(area) {
+    while let Some(volume) = walk.next(area, slots) {
         if u32::from(walk.number()) == number {
             return Some(volume);
         }

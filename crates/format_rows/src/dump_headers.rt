@@ -1,6 +1,7 @@
 //! Headers of other format codes, and the masks that they leave, of `dump_header`.
 
-use dump_header::{ForeignValue, decode, make_masks, make_masks_without_header};
+use dump_header::{decode, make_masks, make_masks_without_header};
+use dump_spec::RefusedField;
 use qic_base::{ForeignField, Name, Sector, write_u16, write_u32};
 use std::test::Fail;
 
@@ -55,7 +56,7 @@ fn fields_are_read(rt: HostRuntime) -> Result<(), Fail> {
 fn refusal(code: u8, narrow: (u16, u16), wide: (u32, u32)) -> Option<(ForeignField, u32)> {
     match decode(&spell(code, narrow, wide)) {
         Ok(_) => None,
-        Err(ForeignValue { field, value }) => Some((field, value)),
+        Err(RefusedField { field, value }) => Some((field, value)),
     }
 }
 

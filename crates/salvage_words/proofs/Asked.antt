@@ -1,5 +1,5 @@
 -- What the words ask for, by what their matches have.
-use Rattle.std.proofs.Common.{◌≡◌, ◌∙◌, ◌⊎◌, ℕ, Bool, true, false, List, Option, Some, None, Result, Ok, is_some, refl, sym, ap}
+use Rattle.std.proofs.Common.{◌≡◌, ◌∙◌, ◌⊎◌, ◌^◌, ◌<◌, ℕ, Bool, true, false, List, Option, Some, None, Result, Ok, is_some, refl, sym, ap}
 use Rattle.std.proofs.Common.{ap₂, subst, codes, inl, inr, arith}
 use Rattle.std.specs.Borrow.{Bor}
 use Rattle.std.specs.Box.{box_value}
@@ -18,7 +18,8 @@ use Rattle.clap.proofs.CallerReads.{signed_reads}
 use Rattle.clap.proofs.WalkLemmas.{first_value-rows, one_text-rows}
 use Rattle.dump_spec.specs.declared.asked.Command.{Command}
 use Rattle.salvage_words.specs.Matched.{HasRead}
-use Rattle.salvage_words.specs.Reading.{Ask, AsksNothing, IsSegmentOf, command_in, command_named, flag_in, form_of, options_fit}
+use Rattle.salvage_words.specs.Reading.{Ask, AsksNothing, IsCodeOf, IsNumberOf, IsSegmentOf}
+use Rattle.salvage_words.specs.Reading.{command_in, command_named, flag_in, form_of, options_fit}
 use Rattle.salvage_words.specs.SalvageWords.{salvage_app}
 use Rattle.salvage_words.specs.declared.asking.SalvageWords.{SalvageWords}
 
@@ -79,20 +80,21 @@ module _ (rows : List Row) (sub : Option (Text × List Row)) (name : Text) (inne
   pub fits_not : options_fit sure whole command ≡ false → None ≡ command_in rows sub
   fits_not fit = rw (is_sub, ← is_whole, ← is_sure, named, fit) refl
 
--- ---- the first segment
+-- ---- the first segment, and the format code
 
--- a text that passed the range of segments is the number that is read of it
-pub segment_read : (E : Type 0) (G : Text → Result ℕ E → Type 0) → ((u : Text) (x : Result ℕ E) → G u x → ParsesUnsigned 16 10 u x) →
+-- a text that passed a range is the number that is read of it
+pub ranged_read : (bits low high : ℕ) → high < 2 ^ bits → (E : Type 0) (G : Text → Result ℕ E → Type 0) →
+    ((u : Text) (x : Result ℕ E) → G u x → ParsesUnsigned bits 10 u x) →
     (o : Option Text) (r : Option ℕ) → (o ≡ None → r ≡ None) → ((t : Text) → o ≡ Some t → ReadsOne G t r) →
-    (o ≡ None) ⊎ ((t : Text) × (o ≡ Some (read_as WithoutMinus t)) × IsSignedIn (pos 0) (pos 65535) t) → IsSegmentOf o r
-segment_read E G only o r none reads (inl lacks) = rw (lacks, none lacks) tt
-segment_read E G only o r none reads (inr has) =
+    (o ≡ None) ⊎ ((t : Text) × (o ≡ Some (read_as WithoutMinus t)) × IsSignedIn (pos low) (pos high) t) → IsNumberOf low high o r
+ranged_read bits low high fits E G only o r none reads (inl lacks) = rw (lacks, none lacks) tt
+ranged_read bits low high fits E G only o r none reads (inr has) =
     let read : ReadsOne G (without_minus has.0) r = reads (without_minus has.0) has.1 in
-    let got = signed_reads E G 16 0 65535 has.0 r read only (omega arith) has.2 in
+    let got = signed_reads E G bits low high has.0 r read only fits has.2 in
     let parsed : G (without_minus has.0) (Ok got.0) = subst (λ (o : Option ℕ). ReadsOne G (without_minus has.0) o) got.1 read in
-    let Is : Option Text → Option ℕ → Type 0 = λ o n. IsSegmentOf o n in
+    let Is : Option Text → Option ℕ → Type 0 = λ o n. IsNumberOf low high o n in
     subst (λ (o : Option Text). Is o r) (sym has.1)
-    (subst (Is (Some (without_minus has.0))) (sym got.1) ((only (without_minus has.0) (Ok got.0) parsed).1, got.3))
+    (subst (Is (Some (without_minus has.0))) (sym got.1) ((only (without_minus has.0) (Ok got.0) parsed).1, (got.2, got.3)))
 
 -- ---- all of it
 
@@ -115,9 +117,10 @@ pub ask : (words : List Text) (m : ArgMatches) (asked : SalvageWords) (form : Op
     asked.asked.form ≡ form_of (option_map (λ (s : Bor Text). s.now) form) →
     option_map (λ (s : Bor Text). s.now) form ≡ first_value (found_of m) (codes "form") →
     IsSegmentOf (one_text (found_of m) (codes "first")) asked.asked.first →
+    IsCodeOf (one_text (found_of m) (codes "format-code")) asked.asked.format_code →
     asked.asked.zero_lost ≡ flag_in (codes "zero-lost") (rows_of (found_of m)) →
     command_in (rows_of (found_of m)) (subcommand_rows_of m) ≡ Some asked.asked.command → Ask words asked
-ask words m asked form has dump map header missing bad sure is_form form_told first zero_lost command = record {
+ask words m asked form has dump map header missing bad sure is_form form_told first code zero_lost command = record {
   forms = has.forms;
   is_forms = has.is_forms;
   taken = has.taken;
@@ -130,6 +133,8 @@ ask words m asked form has dump map header missing bad sure is_form form_told fi
   form = is_form ∙ ap form_of (sym (row_path words m has (codes "form") form form_told));
   first = subst (λ (o : Option Text). IsSegmentOf o asked.asked.first)
       (one_text-rows (found_of m) (codes "first") ∙ ap (one_of (codes "first")) has.rows) first;
+  format_code = subst (λ (o : Option Text). IsCodeOf o asked.asked.format_code)
+      (one_text-rows (found_of m) (codes "format-code") ∙ ap (one_of (codes "format-code")) has.rows) code;
   zero_lost = zero_lost ∙ ap (flag_in (codes "zero-lost")) has.rows;
   command = sym (ap₂ command_in has.rows has.subcommand) ∙ command;
 }

@@ -32,10 +32,10 @@ use Rattle.clap.proofs.WalkLemmas.{both}
 use Rattle.program_words.proofs.Asking.{IsPlainApp, is_refused, words_taken}
 use Rattle.program_words.proofs.Optional.{optional_read}
 use Rattle.salvage_words.proofs.Commands.{no_globals, not_true}
-use Rattle.salvage_words.specs.Matched.{HasRead}
+use Rattle.salvage_words.specs.Matched.{HasNumber, HasRead}
 use Rattle.salvage_words.specs.Options.{IsSalvageCommand}
 use Rattle.salvage_words.specs.Reading.{IsRefusedByClap}
-use Rattle.salvage_words.specs.SalvageWords.{NameList, dump_rule, first_rule, salvage_app, salvage_rules}
+use Rattle.salvage_words.specs.SalvageWords.{NameList, dump_rule, ranged_rule, salvage_app, salvage_rules}
 
 pub salvage_plain : (forms : NameList) → IsPlainApp (salvage_app forms)
 unfolding clap_on_literals
@@ -118,7 +118,7 @@ no_text letter text first some none =
 -- nor is it one of the options that `clap` adds, whose letters are h and v
 not_auto : (letter : ℕ) (a : Arg) (text : Text) → a.id.now ≡ text → slice_index text 0 ≡ letter → letter < 104 → 0 < letter → IsAuto a → ⊥
 not_auto letter a text id first low some (inl help) =
-    let bad : slice_index text 0 ≡ 104 = ap (λ (t : Text). slice_index t 0) (sym id ∙ help) in
+    let bad : slice_index text 0 ≡ 114 = ap (λ (t : Text). slice_index t 0) (sym id ∙ help) in
     absurd (omega arith)
 not_auto letter a text id first low some (inr version) =
     let bad : slice_index text 0 ≡ 118 = ap (λ (t : Text). slice_index t 0) (sym id ∙ version) in
@@ -127,8 +127,8 @@ not_auto letter a text id first low some (inr version) =
 -- ---- the ids of the arguments
 
 abbrev ids : List Text
-ids = codes "form" ∷ codes "first" ∷ codes "missing" ∷ codes "map" ∷ codes "bad" ∷ codes "header" ∷ codes "zero-lost" ∷ codes "sure"
-    ∷ codes "whole" ∷ codes "dump" ∷ []
+ids = codes "form" ∷ codes "first" ∷ codes "missing" ∷ codes "map" ∷ codes "bad" ∷ codes "header" ∷ codes "format-code"
+    ∷ codes "zero-lost" ∷ codes "sure" ∷ codes "whole" ∷ codes "dump" ∷ []
 
 ids_differ : are_first ids 0 ids ≡ true
 ids_differ = refl
@@ -138,30 +138,30 @@ module _ (forms : NameList) (c : Command) (is : app_of c ≡ salvage_app forms) 
   rules_are : map rule_of (args_of c) ≡ salvage_rules forms
   rules_are = ap (λ (a : App). a.top.rules) is
 
-  count_is : length (args_of c) ≡ 10
+  count_is : length (args_of c) ≡ 11
   count_is = length_mapped (args_of c) ∙ ap length rules_are
     where
       length_mapped : (xs : List Arg) → length xs ≡ length (map rule_of xs)
       length_mapped [] = refl
       length_mapped (x ∷ xs) = ap suc (length_mapped xs)
 
-  rule_at : (j : ℕ) (d : Arg) → j < 10 → rule_of (slice_index_or (args_of c) j d) ≡ slice_index_or (salvage_rules forms) j (rule_of d)
+  rule_at : (j : ℕ) (d : Arg) → j < 11 → rule_of (slice_index_or (args_of c) j d) ≡ slice_index_or (salvage_rules forms) j (rule_of d)
   rule_at j d less =
       let inside : j < length (args_of c) = (let count = count_is in omega arith) in
       sym (get_or-map rule_of (args_of c) j d (rule_of d) inside) ∙ ap (λ (rs : List Rule). slice_index_or rs j (rule_of d)) rules_are
 
-  id_at : (j : ℕ) (d : Arg) → j < 10 → (slice_index_or (args_of c) j d).id.now ≡ slice_index_or ids j d.id.now
+  id_at : (j : ℕ) (d : Arg) → j < 11 → (slice_index_or (args_of c) j d).id.now ≡ slice_index_or ids j d.id.now
   id_at j d less = ap (λ (r : Rule). r.id) (rule_at j d less) ∙ id_of_rule j less
     where
-      id_of_rule : (k : ℕ) → k < 10 → (slice_index_or (salvage_rules forms) k (rule_of d)).id ≡ slice_index_or ids k d.id.now
+      id_of_rule : (k : ℕ) → k < 11 → (slice_index_or (salvage_rules forms) k (rule_of d)).id ≡ slice_index_or ids k d.id.now
       id_of_rule k inside =
           sym (get_or-map (λ (r : Rule). r.id) (salvage_rules forms) k (rule_of d) d.id.now inside)
 
   -- an id is that of one argument alone
-  only : (k : ℕ) (d : Arg) → k < 10 → (j : ℕ) (e : Arg) → j < length (args_of c) →
+  only : (k : ℕ) (d : Arg) → k < 11 → (j : ℕ) (e : Arg) → j < length (args_of c) →
       bytes_eq (slice_index_or (args_of c) j e).id.now (slice_index_or (args_of c) k d).id.now ≡ true → j ≡ k
   only k d low j e inside same =
-      let less : j < 10 = (let count = count_is in omega arith) in
+      let less : j < 11 = (let count = count_is in omega arith) in
       same_place ids ids_differ j k e.id.now d.id.now less low
       (sym (id_at j e less) ∙ (bytes_eq-Decides _ _).0 same ∙ id_at k d low)
 
@@ -179,37 +179,37 @@ module _ (forms : NameList) (c : Command) (is : app_of c ≡ salvage_app forms) 
   module _ (m : ArgMatches) (p : IsParsedFrom c m) where
     has_dump : (x : Arg) → is_some (first_value (found_of m) (codes "dump")) ≡ true
     has_dump x =
-        let a = slice_index_or (args_of c) 9 x in
-        let inside : 9 < length (args_of c) = (let count = count_is in omega arith) in
-        let rule : rule_of a ≡ dump_rule = rule_at 9 x (omega arith) in
+        let a = slice_index_or (args_of c) 10 x in
+        let inside : 10 < length (args_of c) = (let count = count_is in omega arith) in
+        let rule : rule_of a ≡ dump_rule = rule_at 10 x (omega arith) in
         let id : a.id.now ≡ codes "dump" = ap (λ (r : Rule). r.id) rule in
         let least : least_values a ≡ 1 = ap (λ (r : Rule). (unwrap_or_range r.range).start_inclusive) rule in
         subst (λ (t : Text). is_some (first_value (found_of m) t) ≡ true) id
-        (required_has_value c m p plain_here no_globals_here (ap (λ (s : App). s.top.subcommand_negates_reqs) is) 9 x inside
+        (required_has_value c m p plain_here no_globals_here (ap (λ (s : App). s.top.subcommand_negates_reqs) is) 10 x inside
         (ap (λ (r : Rule). r.required) rule) (ap (λ (r : Rule). r.action) rule)
-        (no_delimiter a (ap (λ (r : Rule). r.is_simple) rule)) (omega arith) (only 9 x (omega arith))
+        (no_delimiter a (ap (λ (r : Rule). r.is_simple) rule)) (omega arith) (only 10 x (omega arith))
         (λ empty. no_text 100 (codes "dump") refl (omega arith) (sym id ∙ empty))
         (λ auto. not_auto 100 a (codes "dump") id refl (omega arith) (omega arith) auto))
 
-    has_first : (x : Arg) → (one_text (found_of m) (codes "first") ≡ None)
-        ⊎ ((t : Text) × (one_text (found_of m) (codes "first") ≡ Some (read_as WithoutMinus t)) × IsSignedIn (pos 0) (pos 65535) t)
-    has_first x =
-        let a = slice_index_or (args_of c) 1 x in
-        let inside : 1 < length (args_of c) = (let count = count_is in omega arith) in
-        let rule : rule_of a ≡ first_rule = rule_at 1 x (omega arith) in
-        let id : a.id.now ≡ codes "first" = ap (λ (r : Rule). r.id) rule in
-        subst (λ (w : Text). (one_text (found_of m) w ≡ None)
-        ⊎ ((t : Text) × (one_text (found_of m) w ≡ Some (read_as WithoutMinus t)) × IsSignedIn (pos 0) (pos 65535) t)) id
-        (optional_read c m p 1 x inside (only 1 x (omega arith))
-        (λ auto. not_auto 102 a (codes "first") id refl (omega arith) (omega arith) auto)
-        (Signed (pos 0) (pos 65535)) (ap (λ (r : Rule). r.parser) rule) plain_here no_globals_here
-        (λ empty. no_text 102 (codes "first") refl (omega arith) (sym id ∙ empty)))
+    -- the option at a place, whose id begins with an f, is a number from one to another
+    has_number : (j low high : ℕ) (x : Arg) (text : Text) → j < 11 → slice_index text 0 ≡ 102 →
+        slice_index_or (salvage_rules forms) j (rule_of x) ≡ ranged_rule text low high → HasNumber m text low high
+    has_number j low high x text here letter is_rule =
+        let a = slice_index_or (args_of c) j x in
+        let inside : j < length (args_of c) = (let count = count_is in omega arith) in
+        let rule : rule_of a ≡ ranged_rule text low high = rule_at j x here ∙ is_rule in
+        let id : a.id.now ≡ text = ap (λ (r : Rule). r.id) rule in
+        subst (λ (w : Text). HasNumber m w low high) id
+        (optional_read c m p j x inside (only j x here)
+        (λ auto. not_auto 102 a text id letter (omega arith) (omega arith) auto)
+        (Signed (pos low) (pos high)) (ap (λ (r : Rule). r.parser) rule) plain_here no_globals_here
+        (λ empty. no_text 102 text letter (omega arith) (sym id ∙ empty)))
 
   some_argument : Arg
   some_argument = head_of (args_of c) count_is
     where
-      head_of : (xs : List Arg) → length xs ≡ 10 → Arg
-      head_of [] none = absurd (let bad : 0 ≡ 10 = none in omega arith)
+      head_of : (xs : List Arg) → length xs ≡ 11 → Arg
+      head_of [] none = absurd (let bad : 0 ≡ 11 = none in omega arith)
       head_of (x ∷ xs) count = x
 
 -- ---- the answer of a parse
@@ -231,7 +231,8 @@ parsed c is given words same (Ok m) from matches kinds passes =
       rows = taken.rows;
       subcommand = (matches simple).1 ∙ ap₂ subcommand_of is.app same;
       dump = has_dump is.forms c is.app m from x;
-      first = has_first is.forms c is.app m from x;
+      first = has_number is.forms c is.app m from 1 0 65535 x (codes "first") (omega arith) refl refl;
+      format_code = has_number is.forms c is.app m from 6 2 6 x (codes "format-code") (omega arith) refl refl;
     }
 parsed c is given words same (Err e) from matches kinds passes = λ other. record {
   forms = is.forms;

@@ -38,12 +38,20 @@ is_true (Some text) = bytes_eq text (codes "true")
 abbrev pub flag_in : (id : Text) → List Row → Bool
 flag_in id rows = is_true (one_of id rows)
 
--- a text is this number, in decimal digits and below 65,536; or there is none of both
+-- a text is this number, in decimal digits and from one number to another; or there is none of both
+abbrev pub IsNumberOf : (low high : ℕ) → Option Text → Option ℕ → Type 0
+IsNumberOf low high None None = Unit {0}
+IsNumberOf low high None (Some n) = ⊥
+IsNumberOf low high (Some text) None = ⊥
+IsNumberOf low high (Some text) (Some n) = (n ≡ digits_value 10 (without_leading_plus text)) × (low ≤ n) × (n ≤ high)
+
+-- a segment
 abbrev pub IsSegmentOf : Option Text → Option ℕ → Type 0
-IsSegmentOf None None = Unit {0}
-IsSegmentOf None (Some n) = ⊥
-IsSegmentOf (Some text) None = ⊥
-IsSegmentOf (Some text) (Some n) = (n ≡ digits_value 10 (without_leading_plus text)) × (n ≤ 65535)
+IsSegmentOf text n = IsNumberOf 0 65535 text n
+
+-- a format code
+abbrev pub IsCodeOf : Option Text → Option ℕ → Type 0
+IsCodeOf text n = IsNumberOf 2 6 text n
 
 -- ---- the command
 
@@ -57,6 +65,7 @@ abbrev pub command_named : (whole : Bool) → Text → List Row → Option Comma
 command_named whole name rows =
     if bytes_eq name (codes "info") then Some commands.Info
     else if bytes_eq name (codes "list") then Some commands.List
+    else if bytes_eq name (codes "slots") then Some commands.Slots
     else if bytes_eq name (codes "check") then Some commands.Check
     else if bytes_eq name (codes "volume")
     then option_map (λ number. commands.Volume number whole) (number_in 32 (codes "number") rows)
@@ -99,6 +108,7 @@ pub record Ask (words : List Text) (asked : SalvageWords) : Type 0 where
   pub sure : first_of (codes "sure") (matches_of (salvage_app forms) words) ≡ option_map (λ path. path.now) asked.sure
   pub form : asked.asked.form ≡ form_of (first_of (codes "form") (matches_of (salvage_app forms) words))
   pub first : IsSegmentOf (one_of (codes "first") (matches_of (salvage_app forms) words)) asked.asked.first
+  pub format_code : IsCodeOf (one_of (codes "format-code") (matches_of (salvage_app forms) words)) asked.asked.format_code
   pub zero_lost : asked.asked.zero_lost ≡ flag_in (codes "zero-lost") (matches_of (salvage_app forms) words)
   pub command : command_in (matches_of (salvage_app forms) words) (subcommand_of (salvage_app forms) words) ≡ Some asked.asked.command
 

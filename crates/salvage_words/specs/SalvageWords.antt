@@ -1,5 +1,5 @@
 -- The command line (this project's own), by what the contract of `clap` calls a simple command.
-use Rattle.std.specs.Prelude.{◌≡◌, true, List, [], ◌∷◌, Some, codes, fold, pos}
+use Rattle.std.specs.Prelude.{◌≡◌, ℕ, true, List, [], ◌∷◌, Some, codes, fold, pos}
 use Rattle.std.specs.Borrow.{Bor}
 use Rattle.clap.specs.Simple.{App, Shape, new_app, new_rule, new_shape, on_top, with_rule, with_subcommand}
 use Rattle.clap.specs.Walk.{Rule, Text, texts}
@@ -22,14 +22,22 @@ form_rule forms = record (new_rule (codes "form")) {
 abbrev pub IsFormWords : NameList → Type 0
 IsFormWords forms = texts forms.now ≡ codes "sectors" ∷ codes "data" ∷ []
 
--- the option `--first S`, from 0 to 65,535
-abbrev pub first_rule : Rule
-first_rule = record (new_rule (codes "first")) {
-  long = Some (codes "first");
+-- an option with a number from one to another
+abbrev pub ranged_rule : Text → (low high : ℕ) → Rule
+ranged_rule name low high = record (new_rule name) {
+  long = Some name;
   action = Some Set;
   value_names = 1;
-  parser = Some (Signed (pos 0) (pos 65535));
+  parser = Some (Signed (pos low) (pos high));
 }
+
+-- the option `--first S`, from 0 to 65,535
+abbrev pub first_rule : Rule
+first_rule = ranged_rule (codes "first") 0 65535
+
+-- the option `--format-code C`, from 2 to 6
+abbrev pub code_rule : Rule
+code_rule = ranged_rule (codes "format-code") 2 6
 
 -- an option with a file
 abbrev pub file_rule : Text → Rule
@@ -64,7 +72,8 @@ segment_rule id = record (new_rule id) {
 abbrev pub salvage_rules : NameList → List Rule
 salvage_rules forms =
     form_rule forms ∷ first_rule ∷ file_rule (codes "missing") ∷ file_rule (codes "map") ∷ file_rule (codes "bad")
-    ∷ file_rule (codes "header") ∷ flag_rule (codes "zero-lost") ∷ file_rule (codes "sure") ∷ flag_rule (codes "whole") ∷ dump_rule ∷ []
+    ∷ file_rule (codes "header") ∷ code_rule ∷ flag_rule (codes "zero-lost") ∷ file_rule (codes "sure") ∷ flag_rule (codes "whole")
+    ∷ dump_rule ∷ []
 
 -- a subcommand with these arguments
 abbrev pub subcommand_shape : (name : Text) → List Rule → Shape
@@ -78,8 +87,8 @@ segments_shape = subcommand_shape (codes "segments") (segment_rule (codes "first
 
 abbrev pub salvage_subcommands : List Shape
 salvage_subcommands =
-    subcommand_shape (codes "info") [] ∷ subcommand_shape (codes "list") [] ∷ subcommand_shape (codes "check") []
-    ∷ volume_shape ∷ segments_shape ∷ []
+    subcommand_shape (codes "info") [] ∷ subcommand_shape (codes "list") [] ∷ subcommand_shape (codes "slots") []
+    ∷ subcommand_shape (codes "check") [] ∷ volume_shape ∷ segments_shape ∷ []
 
 -- the command: a subcommand is required
 abbrev pub salvage_app : NameList → App

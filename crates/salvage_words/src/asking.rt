@@ -99,6 +99,7 @@ pub fn read_salvage_words<'a>(
         asked: Asked {
             form: form_of(matches.get_str("form")),
             first: matches.get_one::<u16>("first"),
+            format_code: matches.get_one::<u8>("format-code"),
             zero_lost: is_set(&matches, "zero-lost"),
             command,
         },

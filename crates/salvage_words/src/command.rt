@@ -6,7 +6,7 @@ ghost use Rattle.salvage_words.specs.Options.{AreArguments, AreSubcommands, IsSa
 ghost use Rattle.salvage_words.specs.SalvageWords.{segments_shape, subcommand_shape, volume_shape};
 
 use crate::options::{
-    dump_argument, file_option, first_option, flag, form_option, segment_argument, volume_argument,
+    code_option, dump_argument, file_option, first_option, flag, form_option, segment_argument, volume_argument,
 };
 use clap::{Arg, Command};
 use std::alloc::{AllocError, Global};
@@ -46,10 +46,11 @@ fn salvage_subcommands<'a>(alloc: Global) -> Result<Vec<Command<'a>>, AllocError
             "Tells the dump's form, its header and how many volumes it has"
         ),
         plain_subcommand(alloc, "list", "Lists the volumes"),
+        plain_subcommand(alloc, "slots", "Lists the slots of the volume table"),
         plain_subcommand(
             alloc,
             "check",
-            "Tells the segments that have lost or wrong sectors"
+            "Tells the segments that have lost or wrong sectors, and those that lack"
         ),
         volume_subcommand(alloc)?,
         segments_subcommand(alloc)?,
@@ -71,11 +72,8 @@ fn salvage_arguments<'a>(alloc: Global) -> Result<Vec<Arg<'a>>, AllocError>
             "header",
             "The data of a header, in place of the dump's own"
         ),
-        flag(
-            alloc,
-            "zero-lost",
-            "Where a segment contradicts itself, its sectors of zero bytes are lost"
-        ),
+        code_option(alloc),
+        flag(alloc, "zero-lost", "Sectors of zero bytes may be lost ones"),
         file_option(
             alloc,
             "sure",

@@ -3,7 +3,8 @@
 ghost use Rattle.std.specs.Prelude.{◌≡◌};
 ghost use Rattle.clap.specs.Walk.{rule_of};
 ghost use Rattle.salvage_words.specs.Options.{IsFormOption};
-ghost use Rattle.salvage_words.specs.SalvageWords.{dump_rule, file_rule, first_rule, flag_rule, segment_rule, volume_rule};
+ghost use Rattle.salvage_words.specs.SalvageWords.{code_rule, dump_rule, file_rule, first_rule, flag_rule};
+ghost use Rattle.salvage_words.specs.SalvageWords.{segment_rule, volume_rule};
 
 use clap::{Arg, ArgAction};
 use std::alloc::Global;
@@ -33,6 +34,19 @@ pub fn first_option<'a>(alloc: Global) -> Arg<'a>
         .help("The segment that the dump begins with, 0 to 65535")
         .action(ArgAction::Set);
     plain.value_parser(clap::value_parser!(u16))
+}
+
+/// The option `--format-code`, 2 to 6.
+pub fn code_option<'a>(alloc: Global) -> Arg<'a>
+    ensures { rule_of result ≡ code_rule }
+{
+    let plain = Arg::new(alloc, "format-code")
+        .long("format-code")
+        .value_name("C")
+        .help("The format code, 2 to 6, in place of that of the header")
+        .action(ArgAction::Set);
+    let codes = clap::value_parser!(u8).range(2..=6);
+    plain.value_parser(codes)
 }
 
 /// An option that names a file.

@@ -47,6 +47,8 @@ pub fn command_named(name: &str, matches: &ArgMatches<'_>, whole: bool) -> Optio
         Some(Command::Info)
     } else if name == "list" {
         Some(Command::List)
+    } else if name == "slots" {
+        Some(Command::Slots)
     } else if name == "check" {
         Some(Command::Check)
     } else if name == "volume" {
@@ -69,6 +71,6 @@ pub fn options_fit(sure: bool, whole: bool, command: Command) -> bool
     match command {
         Command::Volume { .. } => true,
         Command::Segments { .. } => !whole,
-        Command::Info | Command::List | Command::Check => !(sure || whole),
+        Command::Info | Command::List | Command::Slots | Command::Check => !(sure || whole),
     }
 }

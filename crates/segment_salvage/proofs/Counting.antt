@@ -1,8 +1,9 @@
--- The cells that count: those that are found to have no block are looked at once more without zero bytes.
-use Rattle.std.proofs.Common.{◌≡◌, ℕ, ◌^◌, ◌<◌, Bool, true, false, List, length, map, None, Some, refl, sym, ap, subst, ◌∙◌, inl, inr, ◌⊎◌}
+-- The cells that count: those that are found to have no block, or one of zero bytes, are looked at without zero bytes.
+use Rattle.std.proofs.Common.{◌≡◌, ℕ, ◌^◌, ◌<◌, Bool, true, false, List, length, map, Option, None, Some, refl, sym, ap, subst, ◌∙◌, inl, inr, ◌⊎◌}
 use Rattle.std.proofs.lemmas.Bool.{false≢true}
 use Rattle.cartridge_spec.specs.Shape.{sector_at}
-use Rattle.dump_spec.specs.Given.{CountAs, IsCase, HasReading, without_zeros}
+use Rattle.dump_spec.specs.Given.{CountAs, IsCase, without_zeros}
+use Rattle.dump_spec.specs.Given as given
 use Rattle.dump_spec.specs.declared.form.Form.TheVariants as forms
 use Rattle.qic_base.specs.CartridgeTerms.{is_lost}
 use Rattle.qic_base.specs.declared.tape.SectorView.{SectorView}
@@ -15,7 +16,7 @@ use Rattle.segment_salvage.specs.Found.{case_with, has_block, IsFound, IsLeft, I
 use Rattle.segment_salvage.specs.declared.case.SegmentCase.{SegmentCase}
 use Rattle.segment_salvage.specs.declared.case.SegmentCase.TheVariants.{OneBlock, OneWrong, Contradicts, AsRead}
 use Rattle.segment_salvage.specs.declared.reading.SegmentReading.{SegmentReading}
-use Rattle.silent_locate.specs.Deep.{HasNoReading, cells_without}
+use Rattle.silent_locate.specs.Deep.{Deep, HasNoReading, cells_without}
 
 -- equally many are left
 pub length_left : (case : SegmentCase) (lost : ℕ) (old new : List (List ℕ)) → IsLeft case lost old new → length new ≡ length old
@@ -31,10 +32,6 @@ lost_as lost old new reading found = subst (λ (set : ℕ). IsFound set old read
 
 -- ---- found at once
 
-counts_at_once : (zero_lost : Bool) (cells : List SectorView) → HasReading cells → CountAs forms.Sectors zero_lost cells cells
-counts_at_once true cells reads = inl (reads, refl)
-counts_at_once false cells reads = refl
-
 counted_at : (zero_lost : Bool) (lost : ℕ) (old new : List (List ℕ)) (reading : SegmentReading) → lost < 2 ^ length old →
     IsFound lost old reading new → CountAs forms.Sectors zero_lost (cells_without lost old) (cells_without lost old) →
     IsCounted zero_lost (cells_without lost old) reading new
@@ -47,22 +44,26 @@ counted_at zero_lost lost old new reading low found counts = record {
   found = lost_as lost old new reading found;
 }
 
-counts_settled : (zero_lost : Bool) (case : SegmentCase) (cells : List SectorView) (new : List (List ℕ)) → (zero_lost ≡ false) ⊎
-    (has_block case ≡ true) →
-    IsCase forms.Sectors cells (case_with case new) → CountAs forms.Sectors zero_lost cells cells
-counts_settled zero_lost OneBlock cells new settled is_case = counts_at_once zero_lost cells (new, None, is_case)
-counts_settled zero_lost (OneWrong place) cells new settled is_case = counts_at_once zero_lost cells (new, Some place, is_case)
-counts_settled false Contradicts cells new settled is_case = refl
-counts_settled true Contradicts cells new settled is_case = elim settled [ inl off ↦ absurd (cc) | inr on ↦ absurd (cc) ]
-counts_settled false AsRead cells new settled is_case = refl
-counts_settled true AsRead cells new settled is_case = elim settled [ inl off ↦ absurd (cc) | inr on ↦ absurd (cc) ]
+-- the block of a case
+block_found : (case : SegmentCase) (cells : List SectorView) (new : List (List ℕ)) → has_block case ≡ true →
+    IsCase forms.Sectors cells (case_with case new) → (wrong : Option ℕ) × Deep cells new wrong
+block_found OneBlock cells new some is_case = (None, is_case)
+block_found (OneWrong place) cells new some is_case = (Some place, is_case)
+block_found Contradicts cells new some is_case = absurd (false≢true some)
+block_found AsRead cells new some is_case = absurd (false≢true some)
 
-pub counted_settled : (zero_lost : Bool) (lost : ℕ) (old new : List (List ℕ)) (reading : SegmentReading) → lost < 2 ^ length old →
-    IsFound lost old reading new → (zero_lost ≡ false) ⊎ (has_block reading.case ≡ true) → IsCounted zero_lost (cells_without lost old)
-    reading new
-counted_settled zero_lost lost old new reading low found settled =
-    counted_at zero_lost lost old new reading low found
-    (counts_settled zero_lost reading.case (cells_without lost old) new settled found.is_case)
+-- one with a byte that is not zero
+pub counted_settled : (lost : ℕ) (old new : List (List ℕ)) (reading : SegmentReading) → lost < 2 ^ length old →
+    IsFound lost old reading new → has_block reading.case ≡ true → given.are_zero new ≡ false →
+    IsCounted true (cells_without lost old) reading new
+counted_settled lost old new reading low found some other =
+    let deep = block_found reading.case (cells_without lost old) new some found.is_case in
+    counted_at true lost old new reading low found (inl ((new, deep.0, deep.1, other), refl))
+
+-- whatever is found, where zero bytes count
+pub counted_plain : (lost : ℕ) (old new : List (List ℕ)) (reading : SegmentReading) → lost < 2 ^ length old →
+    IsFound lost old reading new → IsCounted false (cells_without lost old) reading new
+counted_plain lost old new reading low found = counted_at false lost old new reading low found refl
 
 -- ---- found once more
 
@@ -73,30 +74,32 @@ none_found (OneWrong place) cells new none is_case = absurd (false≢true (sym n
 none_found Contradicts cells new none is_case = is_case.1
 none_found AsRead cells new none is_case = none_of_many cells is_case
 
-left_filled : (case : SegmentCase) (lost : ℕ) (old new : List (List ℕ)) → has_block case ≡ false → IsLeft case lost old new →
-    new ≡ filled_from lost 0 old
-left_filled OneBlock lost old new none left = absurd (false≢true (sym none))
-left_filled (OneWrong place) lost old new none left = absurd (false≢true (sym none))
-left_filled Contradicts lost old new none left = left
-left_filled AsRead lost old new none left = left
+-- there is no block, or it has zero bytes alone
+pub unread_before : (case : SegmentCase) (cells : List SectorView) (new : List (List ℕ)) (some zero : Bool) →
+    some ≡ has_block case → zero ≡ given.are_zero new → (some ≡ false) ⊎ (zero ≡ true) → IsCase forms.Sectors cells (case_with case new) →
+    HasNoReading cells ⊎ given.HasZeroReading cells
+unread_before case cells new false zero some_is zero_is how is_case = inl (none_found case cells new (sym some_is) is_case)
+unread_before case cells new true false some_is zero_is how is_case = elim how [ inl off ↦ absurd (cc) | inr on ↦ absurd (cc) ]
+unread_before case cells new true true some_is zero_is how is_case =
+    let deep = block_found case cells new (sym some_is) is_case in inr (new, deep.0, deep.1, sym zero_is)
 
-pub counted_again : (lost zeroed : ℕ) (old mid new : List (List ℕ)) (first reading : SegmentReading) →
-    IsFound lost old first mid → has_block first.case ≡ false →
-    ((place : ℕ) → place < length mid → is_lost zeroed place ≡ are_zero (sector_at mid place)) → zeroed < 2 ^ length mid →
+pub counted_again : (lost zeroed : ℕ) (old mid new : List (List ℕ)) (reading : SegmentReading) →
+    HasNoReading (cells_without lost old) ⊎ given.HasZeroReading (cells_without lost old) → mid ≡ filled_from lost 0 old →
+    ((place : ℕ) → place < length old → is_lost zeroed place ≡ are_zero (sector_at mid place)) → zeroed < 2 ^ length old →
     IsFound zeroed mid reading new → IsCounted true (cells_without lost old) reading new
-counted_again lost zeroed old mid new first reading before none tests low found =
-    let filled : mid ≡ filled_from lost 0 old = left_filled first.case lost old mid none before.left in
+counted_again lost zeroed old mid new reading before filled tests low found =
+    let long : length mid ≡ length old = ap length filled ∙ length-filled_from lost 0 old in
     let same_tests : (place : ℕ) → place < length old → is_lost zeroed place ≡ are_zero (sector_at (filled_from lost 0 old) place) =
-    λ place h. subst (λ (s : List (List ℕ)). is_lost zeroed place ≡ are_zero (sector_at s place)) filled
-    (tests place (subst (λ (n : ℕ). place < n) (sym (length_left first.case lost old mid before.left)) h)) in
+    λ place h. subst (λ (s : List (List ℕ)). is_lost zeroed place ≡ are_zero (sector_at s place)) filled (tests place h) in
     let cells_are : cells_without zeroed mid ≡ map without_zeros (cells_without lost old) =
     ap (cells_without zeroed) filled ∙ cells_without_zeros zeroed lost old same_tests in
     record {
       held = mid;
       size = sym (length_left reading.case zeroed mid new found.left);
-      within = subst (λ (set : ℕ). set < 2 ^ length mid) (sym found.lost_is) low;
+      within = subst (λ (set : ℕ). set < 2 ^ length mid) (sym found.lost_is)
+          (subst (λ (n : ℕ). zeroed < 2 ^ n) (sym long) low);
       counts = inr (
-        none_found first.case (cells_without lost old) mid none before.is_case,
+        before,
         ap (λ (set : ℕ). cells_without set mid) found.lost_is ∙ cells_are,
       );
       shown = subst (λ (set : ℕ). hidden set (cells_without lost old) ≡ cells_without set mid) (sym found.lost_is)

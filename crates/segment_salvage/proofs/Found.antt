@@ -1,10 +1,10 @@
 -- What is found of 4 to 32 cells tells what their segment gives, and what a check finds.
-use Rattle.std.proofs.Common.{◌≡◌, ℕ, ◌-◌, ◌^◌, ◌<◌, ◌≤◌, List, length, take, None, Some, refl, sym, ap, ◌∙◌, arith}
+use Rattle.std.proofs.Common.{◌≡◌, ℕ, ◌-◌, ◌^◌, ◌<◌, ◌≤◌, nat_le, List, length, take, None, Some, refl, sym, ap, ◌∙◌, arith}
 use Rattle.std.proofs.lemmas.Option.{slice_get_within}
 use Rattle.cartridge_spec.specs.Says.{unreadable_count}
 use Rattle.cartridge_spec.specs.Shape.{usable_count}
 use Rattle.dump_spec.specs.Check.{finding_by}
-use Rattle.dump_spec.specs.Given.{IsCase, given_by, given_from}
+use Rattle.dump_spec.specs.Given.{IsCase, given_by, given_from, is_confirmed}
 use Rattle.dump_spec.specs.declared.form.Form.TheVariants as forms
 use Rattle.qic_base.specs.declared.tape.SectorView.{SectorView}
 use Rattle.qic_base.specs.declared.tape.SectorView.TheVariants.{Holds}
@@ -12,7 +12,7 @@ use Rattle.segment_salvage.proofs.CellsGiven.{left_given, take-given_as}
 use Rattle.segment_salvage.proofs.Sets.{count_lost}
 use Rattle.segment_salvage.specs.Finding.{IsPlaced, finding_in}
 use Rattle.segment_salvage.specs.Found.{case_with, IsLeft}
-use Rattle.segment_salvage.specs.Reading.{given_as}
+use Rattle.segment_salvage.specs.Reading.{given_as, confirmed_in}
 use Rattle.segment_salvage.specs.declared.case.SegmentCase.{SegmentCase}
 use Rattle.segment_salvage.specs.declared.case.SegmentCase.TheVariants.{OneBlock, OneWrong, Contradicts, AsRead}
 use Rattle.segment_salvage.specs.declared.reading.SegmentReading.{SegmentReading}
@@ -42,6 +42,14 @@ finds_by OneBlock usable n lost block e = ap (λ (k : ℕ). finding_in OneBlock 
 finds_by (OneWrong place) usable n lost block e = refl
 finds_by Contradicts usable n lost block e = refl
 finds_by AsRead usable n lost block e = ap (λ (k : ℕ). finding_in AsRead usable k) e
+
+-- whether the code confirms it
+pub confirms_by : (case : SegmentCase) (n lost : ℕ) (block : List (List ℕ)) → n ≡ lost →
+    is_confirmed (case_with case block) n ≡ confirmed_in case lost
+confirms_by OneBlock n lost block e = ap (λ (k : ℕ). nat_le k 2) e
+confirms_by (OneWrong place) n lost block e = refl
+confirms_by Contradicts n lost block e = refl
+confirms_by AsRead n lost block e = refl
 
 -- the wrong cell is one of them
 pub placed_by : (case : SegmentCase) (usable lost : ℕ) (old block : List (List ℕ)) → length old ≡ usable_count usable →

@@ -3,10 +3,13 @@ pub mod CellsGathered
 pub mod CellsGiven
 pub mod CellsHidden
 pub mod Counting
+pub mod Doubted
 pub mod Filling
 pub mod Found
+pub mod LostData
 pub mod ReadingWhole
 pub mod Salvaged
 pub mod Sets
 pub mod SureData
+pub mod Tested
 pub mod Zeros

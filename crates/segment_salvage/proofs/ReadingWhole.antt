@@ -129,10 +129,10 @@ given_by_read cases.AsRead counted reading block new is_case gives =
     let d_is : data_count whole_mask ≡ 29 = ap (λ (n : ℕ). n - 3) whole_count in
     ap given_area gives ∙ bytes_as reading 0 (take (data_count whole_mask) new) ∙ ap (λ (d : ℕ). take d new) d_is
 
-data_read : (zero_lost : Bool) (cells : List SectorView) (reading : SegmentReading) (new : List (List ℕ)) →
-    IsSalvaged forms.Data zero_lost whole_mask cells reading new → length new ≡ 32 → length cells ≡ 32 →
+data_read : (cells : List SectorView) (reading : SegmentReading) (new : List (List ℕ)) →
+    IsSalvaged forms.Data false whole_mask cells reading new → length new ≡ 32 → length cells ≡ 32 →
     lost_count reading.lost ≡ 0 → ReadsAll cells (take 29 new)
-data_read zero_lost cells reading new s size count none =
+data_read cells reading new s size count none =
     let counted : List SectorView = s.counted in
     let block : List (List ℕ) = take (usable_count whole_mask) new in
     let same : counted ≡ cells = s.counts in
@@ -154,9 +154,9 @@ data_read zero_lost cells reading new s size count none =
           );
     })
 
-data_unread : (zero_lost : Bool) (cells : List SectorView) (reading : SegmentReading) (new area : List (List ℕ)) →
-    IsSalvaged forms.Data zero_lost whole_mask cells reading new → (lost_count reading.lost ≡ 0 → ⊥) → ReadsAll cells area → ⊥
-data_unread zero_lost cells reading new area s some reads =
+data_unread : (cells : List SectorView) (reading : SegmentReading) (new area : List (List ℕ)) →
+    IsSalvaged forms.Data false whole_mask cells reading new → (lost_count reading.lost ≡ 0 → ⊥) → ReadsAll cells area → ⊥
+data_unread cells reading new area s some reads =
     let counted : List SectorView = s.counted in
     let same : counted ≡ cells = s.counts in
     let all : unreadable_count (take 29 cells) ≡ 0 = count_of_readable 29 cells (λ i h. ((reads.each i h).0, (reads.each i h).1)) in
@@ -178,42 +178,34 @@ length-buffer_cells unread sectors =
     let all = length-append (map view (range_with_len 0 d)) (replicate (n - d) Lost) in
     omega arith
 
-pub reads_where_found : (form : Form) (zero_lost : Bool) (cells : List SectorView) (reading : SegmentReading) (new : List (List ℕ))
-    (found : Bool) →
-    form ≡ forms.Sectors → IsSalvaged form zero_lost whole_mask cells reading new → found ≡ has_block reading.case →
-    OnTrue found (ReadsAs form zero_lost cells (take 29 new))
-reads_where_found forms.Sectors zero_lost cells reading new found is s test =
+pub reads_where_found : (zero_lost : Bool) (cells : List SectorView) (reading : SegmentReading) (new : List (List ℕ)) (found : Bool) →
+    IsSalvaged forms.Sectors zero_lost whole_mask cells reading new → found ≡ has_block reading.case →
+    OnTrue found (ReadsByCode zero_lost cells (take 29 new))
+reads_where_found zero_lost cells reading new found s test =
     OnTrue_from found (ReadsByCode zero_lost cells (take 29 new)) (λ on. sectors_read zero_lost cells reading new s (sym test ∙ on))
-reads_where_found forms.Data zero_lost cells reading new found is s test = absurd (cc (is))
 
-pub none_where_not : (form : Form) (zero_lost : Bool) (cells : List SectorView) (reading : SegmentReading) (new : List (List ℕ))
-    (found : Bool) →
-    form ≡ forms.Sectors → IsSalvaged form zero_lost whole_mask cells reading new → found ≡ has_block reading.case →
-    OnFalse found ((area : List (List ℕ)) → ReadsAs form zero_lost cells area → ⊥)
-none_where_not forms.Sectors zero_lost cells reading new found is s test =
+pub none_where_not : (zero_lost : Bool) (cells : List SectorView) (reading : SegmentReading) (new : List (List ℕ)) (found : Bool) →
+    IsSalvaged forms.Sectors zero_lost whole_mask cells reading new → found ≡ has_block reading.case →
+    OnFalse found ((area : List (List ℕ)) → ReadsByCode zero_lost cells area → ⊥)
+none_where_not zero_lost cells reading new found s test =
     OnFalse_from found ((area : List (List ℕ)) → ReadsByCode zero_lost cells area → ⊥)
     (λ off area. sectors_unread zero_lost cells reading new area s (sym test ∙ off))
-none_where_not forms.Data zero_lost cells reading new found is s test = absurd (cc (is))
 
-pub reads_where_none_lost : (form : Form) (zero_lost : Bool) (unread : ℕ) (old : List (List ℕ)) (reading : SegmentReading)
-    (new : List (List ℕ)) (lost : ℕ) →
-    form ≡ forms.Data → IsSalvaged form zero_lost whole_mask (buffer_cells form whole_mask unread old) reading new → length new ≡ 32 →
+pub reads_where_none_lost : (unread : ℕ) (old : List (List ℕ)) (reading : SegmentReading) (new : List (List ℕ)) (lost : ℕ) →
+    IsSalvaged forms.Data false whole_mask (buffer_cells forms.Data whole_mask unread old) reading new → length new ≡ 32 →
     lost ≡ lost_count reading.lost →
-    OnTrue (nat_eq lost 0) (ReadsAs form zero_lost (buffer_cells form whole_mask unread old) (take 29 new))
-reads_where_none_lost forms.Sectors zero_lost unread old reading new lost is s size count = absurd (cc (is))
-reads_where_none_lost forms.Data zero_lost unread old reading new lost is s size count =
+    OnTrue (nat_eq lost 0) (ReadsAll (buffer_cells forms.Data whole_mask unread old) (take 29 new))
+reads_where_none_lost unread old reading new lost s size count =
     let cells : List SectorView = buffer_cells forms.Data whole_mask unread old in
     OnTrue_from (nat_eq lost 0) (ReadsAll cells (take 29 new))
-    (λ on. data_read zero_lost cells reading new s size (length-buffer_cells unread old) (sym count ∙ eqb-true lost 0 on))
+    (λ on. data_read cells reading new s size (length-buffer_cells unread old) (sym count ∙ eqb-true lost 0 on))
 
-pub none_where_lost : (form : Form) (zero_lost : Bool) (cells : List SectorView) (reading : SegmentReading) (new : List (List ℕ))
-    (lost : ℕ) →
-    form ≡ forms.Data → IsSalvaged form zero_lost whole_mask cells reading new → lost ≡ lost_count reading.lost →
-    OnFalse (nat_eq lost 0) ((area : List (List ℕ)) → ReadsAs form zero_lost cells area → ⊥)
-none_where_lost forms.Sectors zero_lost cells reading new lost is s count = absurd (cc (is))
-none_where_lost forms.Data zero_lost cells reading new lost is s count =
+pub none_where_lost : (cells : List SectorView) (reading : SegmentReading) (new : List (List ℕ)) (lost : ℕ) →
+    IsSalvaged forms.Data false whole_mask cells reading new → lost ≡ lost_count reading.lost →
+    OnFalse (nat_eq lost 0) ((area : List (List ℕ)) → ReadsAll cells area → ⊥)
+none_where_lost cells reading new lost s count =
     OnFalse_from (nat_eq lost 0) ((area : List (List ℕ)) → ReadsAll cells area → ⊥)
-    (λ off area. data_unread zero_lost cells reading new area s (λ none. eqb-false lost 0 off (count ∙ none)))
+    (λ off area. data_unread cells reading new area s (λ none. eqb-false lost 0 off (count ∙ none)))
 
 -- ---- one reading
 

@@ -1,17 +1,12 @@
 -- Cells without the sectors of zero bytes.
-use Rattle.std.proofs.Common.{◌≡◌, ◌≢◌, ◌↔◌, ℕ, zero, suc, ◌+◌, ◌/◌, ◌%◌, ◌^◌, ◌<◌, inl, inr, nat_eq, Bool, true, false, if◌then◌else◌}
-use Rattle.std.proofs.Common.{List, [], ◌∷◌, ◌++◌, length, map, replicate, refl, sym, ap, subst, ◌∙◌, arith}
-use Rattle.std.proofs.Math.Pow.{pow-lt}
-use Rattle.std.proofs.lemmas.Bool.{cases_eq, ne_eqb}
+use Rattle.std.proofs.Common.{◌≡◌, ℕ, zero, suc, ◌+◌, ◌<◌, nat_eq, Bool, true, false, if◌then◌else◌}
+use Rattle.std.proofs.Common.{List, [], ◌∷◌, ◌++◌, length, map, replicate, refl, ap, subst, ◌∙◌, arith}
 use Rattle.std.specs.List.{list_all}
 use Rattle.cartridge_spec.specs.Shape.{sector_at}
 use Rattle.dump_spec.specs.Given.{without_zeros}
 use Rattle.qic_base.specs.Cartridge.{zero_sector}
-use Rattle.qic_base.specs.CartridgeTerms.{IsLost, is_lost}
-use Rattle.erasure_solve.proofs.Places.{is_lost_from}
-use Rattle.segment_salvage.proofs.Sets.{lost_within}
-use Rattle.silent_locate.proofs.Cells.{or_place-other}
-use Rattle.silent_locate.proofs.Sets.{with_place-test}
+use Rattle.qic_base.specs.CartridgeTerms.{is_lost}
+use Rattle.segment_salvage.proofs.Tested.{IsTestedBelow}
 use Rattle.qic_base.specs.declared.tape.SectorView.{SectorView}
 use Rattle.qic_base.specs.declared.tape.SectorView.TheVariants.{Lost, Holds}
 use Rattle.segment_salvage.specs.Filled.{filled_from}
@@ -81,32 +76,5 @@ filled_from-more lost place (first ∷ front) bytes at e =
 -- ---- the set of the sectors of zero bytes
 
 -- its places are those below a number
-pub record IsZeroBelow (set place : ℕ) (sectors : List (List ℕ)) : Type 0 where
-  pub zero : (i : ℕ) → i < place → is_lost set i ≡ are_zero (sector_at sectors i)
-  pub within : set < 2 ^ place
-
-pub zero_more : (set more place : ℕ) (sectors : List (List ℕ)) → IsZeroBelow set place sectors →
-    are_zero (sector_at sectors place) ≡ true → IsLost more place →
-    ((other : ℕ) → other ≢ place → IsLost more other ↔ IsLost set other) → more < 2 ^ (place + 1) →
-    IsZeroBelow more (place + 1) sectors
-zero_more set more place sectors g zeros here others low = record {
-  zero = λ i h. elim (cases_eq i place) [
-    | inl e ↦ subst (λ (p : ℕ). is_lost more p ≡ are_zero (sector_at sectors p)) (sym e) (is_lost_from more place here ∙ sym zeros)
-    | inr apart ↦
-        with_place-test set more place here others i ∙ or_place-other (is_lost set) place i apart ∙ g.zero i (omega (arith, apart))
-  ];
-  within = low;
-}
-
-pub zero_same : (set place : ℕ) (sectors : List (List ℕ)) → IsZeroBelow set place sectors →
-    are_zero (sector_at sectors place) ≡ false → IsZeroBelow set (place + 1) sectors
-zero_same set place sectors g zeros = record {
-  zero = λ i h. elim (cases_eq i place) [
-    | inl e ↦ subst (λ (p : ℕ). is_lost set p ≡ are_zero (sector_at sectors p)) (sym e) (none ∙ sym zeros)
-    | inr apart ↦ g.zero i (omega (arith, apart))
-  ];
-  within = omega (arith, g.within, pow-lt {i = place} {j = place + 1} (omega arith));
-}
-  where
-    none : is_lost set place ≡ false
-    none = ne_eqb (set / 2 ^ place % 2) 1 (λ on. absurd (omega (arith, lost_within set place place on g.within)))
+abbrev pub IsZeroBelow : (set place : ℕ) → (sectors : List (List ℕ)) → Type 0
+IsZeroBelow set place sectors = IsTestedBelow (λ i. are_zero (sector_at sectors i)) set place

@@ -5,5 +5,6 @@ pub mod Finding
 pub mod Found
 pub mod HeaderData
 pub mod Laws
+pub mod LostData
 pub mod Reading
 pub mod Salvaged

@@ -3,6 +3,7 @@
 ghost use Rattle.std.specs.Prelude.{◌≡◌, ◌==◌, ◌<◌, ◌≤◌, ◌^◌, ℕ, length};
 ghost use Rattle.std.specs.List.{list_all};
 ghost use Rattle.cartridge_spec.specs.Shape.{sector_at};
+ghost use Rattle.dump_spec.specs.Given.{are_zero};
 ghost use Rattle.qic_base.specs.CartridgeTerms.{is_lost};
 ghost use Rattle.segment_salvage.specs.Filled.{filled_from};
 
@@ -14,8 +15,15 @@ fn is_zero(sector: &Sector) -> bool
     sector.iter().all(|byte| *byte == 0)
 }
 
+/// Whether sectors hold zero bytes alone.
+pub(crate) fn are_zero(sectors: &[Sector]) -> bool
+    ensures { result ≡ are_zero sectors.now }
+{
+    sectors.iter().all(|sector| is_zero(sector))
+}
+
 /// The places of the sectors of zero bytes.
-pub(crate) fn zero_places(sectors: &[Sector]) -> LostSet
+fn zero_places(sectors: &[Sector]) -> LostSet
     requires { length sectors.now ≤ 32 }
     ensures zero { (place : ℕ) → place < length sectors.now →
         is_lost result place ≡ list_all (λ b. b == 0) (sector_at sectors.now place) }
@@ -40,4 +48,16 @@ pub(crate) fn fill_lost(sectors: &mut [Sector], lost: LostSet)
             sectors[place as usize] = [0; SECTOR];
         }
     }
+}
+
+/// Puts zero bytes into the lost sectors, and answers the places of all sectors of zero bytes.
+pub(crate) fn lose_zeros(sectors: &mut [Sector], lost: LostSet) -> LostSet
+    requires { length sectors.old ≤ 32 }
+    ensures filled { sectors.new ≡ filled_from lost 0 sectors.old }
+    ensures zero { (place : ℕ) → place < length sectors.old →
+        is_lost result place ≡ list_all (λ b. b == 0) (sector_at sectors.new place) }
+    ensures within { result < 2 ^ length sectors.old }
+{
+    fill_lost(sectors, lost);
+    zero_places(sectors)
 }

@@ -1,14 +1,15 @@
 //! The cells of a segment, gathered from its sectors.
 
-ghost use Rattle.std.specs.Prelude.{◌≡◌, ◌<◌, ◌≤◌, ◌^◌, ◌-◌, ℕ, Bool, length, map, take};
+ghost use Rattle.std.specs.Prelude.{◌≡◌, ◌<◌, ◌≤◌, ◌^◌, ◌-◌, length, map, take};
 ghost use Rattle.cartridge_spec.specs.Shape.{data_count, usable_count, usable_places};
 ghost use Rattle.dump_spec.specs.declared.form.Form.TheVariants as forms;
 ghost use Rattle.silent_locate.specs.Deep.{cells_without};
 ghost use Rattle.segment_salvage.specs.Buffer.{buffer_view, buffer_cells};
+ghost use Rattle.segment_salvage.specs.LostData.{IsLostData};
 ghost use Rattle.segment_salvage.specs.Salvaged.{IsSalvaged};
 
 use crate::case::SegmentCase;
-use crate::cells::fill_lost;
+use crate::cells::{fill_lost, lose_zeros};
 use crate::reading::SegmentReading;
 use crate::solving::find_counted;
 use dump_spec::Form;
@@ -69,12 +70,12 @@ pub(crate) fn salvage(
 {
     match form {
         Form::Sectors => salvage_sectors(zero_lost, sectors, usable, unread),
-        Form::Data => salvage_data(sectors, usable, unread),
+        Form::Data => salvage_data(zero_lost, sectors, usable, unread),
     }
 }
 
 /// In the form of sectors; fewer than four are no code block.
-fn salvage_sectors(
+pub(crate) fn salvage_sectors(
     zero_lost: bool,
     sectors: &mut [Sector],
     usable: u32,
@@ -95,15 +96,37 @@ fn salvage_sectors(
     find_counted(&mut sectors[..count as usize], lost, zero_lost)
 }
 
+/// Puts zero bytes into the data sectors that count as lost, and answers their places: those that can't be read, and all of zero
+/// bytes, where these may be lost ones.
+fn lose_data(zero_lost: bool, sectors: &mut [Sector], unread: LostSet) -> LostSet
+    requires few { length sectors.old ≤ 32 }
+    requires within { unread < 2 ^ length sectors.old }
+    ensures { IsLostData zero_lost (cells_without unread sectors.old) result sectors.new }
+{
+    if zero_lost {
+        let zero = lose_zeros(sectors, unread);
+        fill_lost(sectors, zero);
+        zero
+    } else {
+        fill_lost(sectors, unread);
+        unread
+    }
+}
+
 /// In the form of data, which stand at the front.
-fn salvage_data(sectors: &mut [Sector], usable: u32, unread: LostSet) -> SegmentReading
+pub(crate) fn salvage_data(
+    zero_lost: bool,
+    sectors: &mut [Sector],
+    usable: u32,
+    unread: LostSet,
+) -> SegmentReading
     requires { length sectors.old ≡ 32 }
-    ensures { (zero_lost : Bool) → IsSalvaged forms.Data zero_lost usable
+    ensures { IsSalvaged forms.Data zero_lost usable
         (buffer_cells forms.Data usable unread sectors.old) result sectors.new }
 {
     let count = data_sectors(usable);
-    let lost = gather(sectors, first_places(count), unread);
-    fill_lost(&mut sectors[..count as usize], lost);
+    let unread = gather(sectors, first_places(count), unread);
+    let lost = lose_data(zero_lost, &mut sectors[..count as usize], unread);
     SegmentReading {
         case: SegmentCase::AsRead,
         lost,

@@ -8,7 +8,7 @@ ghost use Rattle.dump_spec.specs.HeaderPlace.{ReadsAs};
 ghost use Rattle.segment_salvage.specs.Buffer.{buffer_cells};
 ghost use Rattle.segment_salvage.specs.HeaderData.{IsHeaderData};
 
-use crate::gathering::salvage;
+use crate::gathering::{salvage_data, salvage_sectors};
 use dump_spec::Form;
 use header_segments::SIGNATURE;
 use qic_base::{LostSet, Sector, WHOLE, read_u32};
@@ -22,10 +22,15 @@ fn reads_whole(form: Form, zero_lost: bool, sectors: &mut [Sector], unread: Lost
     ensures none { OnFalse result ((area : List (List ℕ)) →
         ¬ (ReadsAs form zero_lost (buffer_cells form whole_mask unread sectors.old) area)) }
 {
-    let reading = salvage(form, zero_lost, sectors, WHOLE, unread);
     match form {
-        Form::Sectors => reading.case.has_block(),
-        Form::Data => reading.lost.count() == 0,
+        Form::Sectors => {
+            let reading = salvage_sectors(zero_lost, sectors, WHOLE, unread);
+            reading.case.has_block()
+        }
+        Form::Data => {
+            let reading = salvage_data(false, sectors, WHOLE, unread);
+            reading.lost.count() == 0
+        }
     }
 }
 

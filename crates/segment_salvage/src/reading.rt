@@ -1,11 +1,12 @@
 //! What a segment gives.
 
-ghost use Rattle.std.specs.Prelude.{◌≡◌, ◌≤◌, length, take};
+ghost use Rattle.std.specs.Prelude.{◌≡◌, ◌≤◌, ◌<◌, ℕ, length, take};
 ghost use Rattle.cartridge_spec.specs.Shape.{data_count, usable_count};
-ghost use Rattle.dump_spec.specs.Given.{Gives, is_sure, all_sure};
+ghost use Rattle.dump_spec.specs.Given.{Gives, Confirms, is_filler, is_sure, all_sure};
+ghost use Rattle.qic_base.specs.CartridgeTerms.{is_lost};
 ghost use Rattle.segment_salvage.specs.Buffer.{buffer_cells};
 ghost use Rattle.segment_salvage.specs.Counted.{CountsWithout};
-ghost use Rattle.segment_salvage.specs.Reading.{mark_of, given_as};
+ghost use Rattle.segment_salvage.specs.Reading.{confirmed_of, doubted_of, mark_of, given_as};
 
 use crate::case::SegmentCase;
 use crate::gathering::salvage;
@@ -21,6 +22,47 @@ pub struct SegmentReading {
 }
 
 impl SegmentReading {
+    /// Whether the code says that each sector stands at its place.
+    pub fn is_confirmed(&self) -> bool
+        ensures { result ≡ confirmed_of self.now }
+    {
+        match self.case {
+            SegmentCase::OneBlock => self.lost.count() <= 2,
+            SegmentCase::OneWrong { .. } => true,
+            SegmentCase::Contradicts | SegmentCase::AsRead => false,
+        }
+    }
+
+    /// The same data sectors where nothing says that they stand at their places: none is sure.
+    pub fn doubted(&self) -> SegmentReading
+        ensures { result ≡ doubted_of self.now }
+    {
+        match self.case {
+            SegmentCase::OneBlock | SegmentCase::OneWrong { .. } => SegmentReading {
+                case: SegmentCase::Contradicts,
+                lost: LostSet::from_mask(0),
+            },
+            SegmentCase::Contradicts | SegmentCase::AsRead => SegmentReading {
+                case: SegmentCase::Contradicts,
+                lost: self.lost,
+            },
+        }
+    }
+
+    /// The places of the first data sectors, at most 32, that are lost: zero bytes stand in their place.
+    pub fn filled(&self, sectors: u8) -> LostSet
+        requires { sectors ≤ 32 }
+        ensures { (place : ℕ) → place < sectors → is_lost result place ≡ is_filler (mark_of self.now place) }
+    {
+        let mut filled = LostSet::from_mask(0);
+        for place in 0..sectors {
+            if is_filler(self.mark(place)) {
+                filled = filled.with_place(place);
+            }
+        }
+        filled
+    }
+
     /// How sure the data sector at a place is.
     pub fn mark(&self, place: u8) -> Mark
         ensures { result ≡ mark_of self.now place }
@@ -52,6 +94,15 @@ impl SegmentReading {
     }
 }
 
+fn is_filler(mark: Mark) -> bool
+    ensures { result ≡ is_filler mark }
+{
+    match mark {
+        Mark::Filled => true,
+        Mark::Sure | Mark::Unchecked => false,
+    }
+}
+
 fn is_sure(mark: Mark) -> bool
     ensures { result ≡ is_sure mark }
 {
@@ -73,6 +124,7 @@ pub fn read_segment(
     requires { length sectors.old ≡ 32 }
     ensures gives { Gives form zero_lost (buffer_cells form usable unread sectors.old)
         (given_as result 0 (take (data_count usable) sectors.new)) }
+    ensures confirms { Confirms form zero_lost (buffer_cells form usable unread sectors.old) (confirmed_of result) }
     ensures without { form ≡ Form.Sectors → 4 ≤ usable_count usable →
         CountsWithout zero_lost (buffer_cells form usable unread sectors.old) result.lost }
 {

@@ -10,6 +10,8 @@ returns c =
     let first = sym (unwrap_or-slice_get c.args.area.now 0 []) in
     record {
       format_code = c.read_code.ensures;
+      first_copy = c.read_first_copy.ensures;
+      second_copy = c.read_second_copy.ensures;
       first_data = c.read_first.ensures;
       last_data = c.read_last.ensures;
       format_date = c.read_u32.ensures ∙ ap (λ (sector : List ℕ). number_at sector 14 4) first;

@@ -54,3 +54,15 @@ returns-clause-last_too_high c = refl
 pub returns-clause-label_of_4 : goal.returns-clause-label_of_4
 unfolding number_at little_endian_bytes set_where filled
 returns-clause-label_of_4 c = refl
+
+pub returns-clause-copies_of_4 : goal.returns-clause-copies_of_4
+unfolding number_at little_endian_bytes set_where filled
+returns-clause-copies_of_4 c = refl
+
+pub returns-clause-code_given : goal.returns-clause-code_given
+unfolding number_at little_endian_bytes set_where filled
+returns-clause-code_given c = refl
+
+pub returns-clause-stray : goal.returns-clause-stray
+unfolding number_at little_endian_bytes set_where filled
+returns-clause-stray c = refl

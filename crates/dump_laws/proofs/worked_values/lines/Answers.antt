@@ -3,7 +3,7 @@ use Rattle.std.specs.Fmt.{digits}
 use Rattle.command_spec.specs.Lines.{date_text, date_form, trimmed, name_text, number_line, place_line, volume_line}
 use Rattle.dump_spec.specs.Output.{sure_head}
 use Rattle.qic_base.specs.Cartridge.{lost_places}
-use Rattle.qic_base.specs.Field.{number_at, filled}
+use Rattle.qic_base.specs.Field.{number_at, filled, little_endian_bytes}
 use Rattle.rescue_map.specs.Text.{hex_text}
 use Rattle.dump_laws.proofs.worked_values.lines.Goals as goal
 
@@ -94,3 +94,43 @@ returns-clause-bad_range_line c = refl
 pub returns-clause-mend : goal.returns-clause-mend
 unfolding digits number_at filled sure_head hex_text date_text date_form trimmed name_text number_line place_line volume_line lost_places
 returns-clause-mend c = refl
+
+pub returns-clause-info_without_table : goal.returns-clause-info_without_table
+unfolding digits number_at little_endian_bytes filled sure_head hex_text date_text date_form trimmed name_text number_line place_line volume_line lost_places
+returns-clause-info_without_table c = refl
+
+pub returns-clause-slots : goal.returns-clause-slots
+unfolding digits number_at little_endian_bytes filled sure_head hex_text date_text date_form trimmed name_text number_line place_line volume_line lost_places
+returns-clause-slots c = refl
+
+pub returns-clause-slots_passed : goal.returns-clause-slots_passed
+unfolding digits number_at little_endian_bytes filled sure_head hex_text date_text date_form trimmed name_text number_line place_line volume_line lost_places
+returns-clause-slots_passed c = refl
+
+pub returns-clause-capitals : goal.returns-clause-capitals
+unfolding digits number_at little_endian_bytes filled sure_head hex_text date_text date_form trimmed name_text number_line place_line volume_line lost_places
+returns-clause-capitals c = refl
+
+pub returns-clause-check_lacking : goal.returns-clause-check_lacking
+unfolding digits number_at little_endian_bytes filled sure_head hex_text date_text date_form trimmed name_text number_line place_line volume_line lost_places
+returns-clause-check_lacking c = refl
+
+pub returns-clause-check_statuses : goal.returns-clause-check_statuses
+unfolding digits number_at little_endian_bytes filled sure_head hex_text date_text date_form trimmed name_text number_line place_line volume_line lost_places
+returns-clause-check_statuses c = refl
+
+pub returns-clause-warnings : goal.returns-clause-warnings
+unfolding digits number_at little_endian_bytes filled sure_head hex_text date_text date_form trimmed name_text number_line place_line volume_line lost_places
+returns-clause-warnings c = refl
+
+pub returns-clause-no_warnings : goal.returns-clause-no_warnings
+unfolding digits number_at little_endian_bytes filled sure_head hex_text date_text date_form trimmed name_text number_line place_line volume_line lost_places
+returns-clause-no_warnings c = refl
+
+pub returns-clause-tables : goal.returns-clause-tables
+unfolding digits number_at little_endian_bytes filled sure_head hex_text date_text date_form trimmed name_text number_line place_line volume_line lost_places
+returns-clause-tables c = refl
+
+pub returns-clause-table_exits : goal.returns-clause-table_exits
+unfolding digits number_at little_endian_bytes filled sure_head hex_text date_text date_form trimmed name_text number_line place_line volume_line lost_places
+returns-clause-table_exits c = refl

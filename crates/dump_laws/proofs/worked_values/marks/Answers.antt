@@ -21,3 +21,11 @@ returns-clause-contradicted c = refl
 pub returns-clause-four_lost : goal.returns-clause-four_lost
 unfolding given_from
 returns-clause-four_lost c = refl
+
+pub returns-clause-doubted : goal.returns-clause-doubted
+unfolding given_from
+returns-clause-doubted c = refl
+
+pub returns-clause-confirmed : goal.returns-clause-confirmed
+unfolding given_from
+returns-clause-confirmed c = refl

@@ -6,7 +6,7 @@ use Rattle.dump_output.proofs.putting.put_out.Goals as goal
 
 pub returns-in-Err-clause-out : goal.returns-in-Err-clause-out
 returns-in-Err-clause-out g c =
-    begin_failed g.D.Disk.means g.K.Sink.means g.M.Sink.means c.args.known.now c.args.zero_lost c.args.first c.args.last c.args.size
+    begin_failed g.D.Disk.means g.K.Sink.means g.M.Sink.means c.args.known.now c.args.zero_lost c.args.masks_known c.args.first c.args.last c.args.size
     (record { disk = c.args.disk.now; output = c.args.output.now; sure = c.args.sure.now }) c.begin.new.sure
     (g.met.K.Sink.took_nothing c.args.output.now) c.in-Err.ensures faults.Output refl
 
@@ -16,7 +16,7 @@ returns-in-Err-clause-whole g c = puts_whole (Err faults.Output) (returns-in-Err
 pub returns-in-Err-put-clause-out : goal.returns-in-Err-put-clause-out
 returns-in-Err-put-clause-out g c =
     segments_cut c.put_segments-put.new.progress c.in-Err-put.fault
-    (subst (λ (n : ℕ). PutSegments g.D.Disk.means g.K.Sink.means g.M.Sink.means c.args.known.now c.args.zero_lost c.args.first c.args.last n
+    (subst (λ (n : ℕ). PutSegments g.D.Disk.means g.K.Sink.means g.M.Sink.means c.args.known.now c.args.zero_lost c.args.masks_known c.args.first c.args.last n
     (record { disk = c.args.disk.now; output = c.args.output.now; sure = c.args.sure.now })
     (record { disk = c.put_segments-put.new.disk; output = c.put_segments-put.new.output; sure = c.put_segments-put.new.sure })
     c.put_segments-put.new.progress (Err c.in-Err-put.fault)) c.in-Ok.ensures.1
@@ -28,7 +28,7 @@ returns-in-Err-put-clause-whole g c = puts_whole (Err c.in-Err-put.fault) (retur
 pub returns-in-Err-finish-clause-out : goal.returns-in-Err-finish-clause-out
 returns-in-Err-finish-clause-out g c =
     finish_failed g.met.M.Sink.took_both c.put_segments-put.new.progress c.in_default.field-0 c.finish.new.sink
-    (subst (λ (n : ℕ). PutSegments g.D.Disk.means g.K.Sink.means g.M.Sink.means c.args.known.now c.args.zero_lost c.args.first c.args.last n
+    (subst (λ (n : ℕ). PutSegments g.D.Disk.means g.K.Sink.means g.M.Sink.means c.args.known.now c.args.zero_lost c.args.masks_known c.args.first c.args.last n
     (record { disk = c.args.disk.now; output = c.args.output.now; sure = c.args.sure.now })
     (record { disk = c.put_segments-put.new.disk; output = c.put_segments-put.new.output; sure = c.put_segments-put.new.sure })
     c.put_segments-put.new.progress (Ok c.in_default.field-0)) c.in-Ok.ensures.1
@@ -41,7 +41,7 @@ returns-in-Err-finish-clause-whole g c = puts_whole (Err faults.Output) (returns
 pub returns-in-Ok-finish-clause-out : goal.returns-in-Ok-finish-clause-out
 returns-in-Ok-finish-clause-out g c =
     all_written g.met.M.Sink.took_both c.put_segments-put.new.progress c.in_default.field-0 c.finish.new.sink
-    (subst (λ (n : ℕ). PutSegments g.D.Disk.means g.K.Sink.means g.M.Sink.means c.args.known.now c.args.zero_lost c.args.first c.args.last n
+    (subst (λ (n : ℕ). PutSegments g.D.Disk.means g.K.Sink.means g.M.Sink.means c.args.known.now c.args.zero_lost c.args.masks_known c.args.first c.args.last n
     (record { disk = c.args.disk.now; output = c.args.output.now; sure = c.args.sure.now })
     (record { disk = c.put_segments-put.new.disk; output = c.put_segments-put.new.output; sure = c.put_segments-put.new.sure })
     c.put_segments-put.new.progress (Ok c.in_default.field-0)) c.in-Ok.ensures.1

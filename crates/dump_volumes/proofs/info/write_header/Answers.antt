@@ -2,8 +2,7 @@ use Rattle.std.proofs.Common.{◌++◌, List, ℕ, Some, subst}
 use Rattle.qic_base.specs.Sink.{Wrote}
 use Rattle.qic_base.specs.SinkCalls.{BrokeOff, Writes}
 use Rattle.qic_base.proofs.Writing.{BrokeOff-longer}
-use Rattle.command_spec.specs.Lines.{count_line}
-use Rattle.dump_spec.specs.Lines.{header_lines}
+use Rattle.dump_spec.specs.Lines.{header_lines, volumes_line}
 use Rattle.rescue_map.proofs.Texting.{writes_behind}
 use Rattle.dump_volumes.proofs.Informed.{label_part, track_part, data_part, header_parts}
 use Rattle.dump_volumes.proofs.info.write_header.Goals as goal
@@ -26,5 +25,5 @@ returns-in-Err g c = λ found told.
     let broke : BrokeOff g.K.Sink.means c.args.sink.now c.write_text.new.sink (label_part c.args.header.now) =
     rw (c.bytes.ensures, c.label_text.ensures) at c.in-Err.ensures in
     BrokeOff-longer (track_part c.args.header.now.fields ++ data_part c.args.header.now.fields c.args.bad c.args.volumes)
-    (header_lines (Some found) c.args.bad ++ count_line c.args.volumes)
+    (header_lines (Some found) c.args.bad ++ volumes_line c.args.volumes)
     (header_parts found c.args.header.now c.args.bad c.args.volumes told) broke

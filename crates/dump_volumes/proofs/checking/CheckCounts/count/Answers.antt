@@ -4,7 +4,7 @@ use Rattle.dump_volumes.proofs.Counted.{counted_more}
 use Rattle.dump_volumes.proofs.checking.CheckCounts.count.Goals as goal
 
 pub returns : goal.returns
-returns c = λ findings is.
-    counted_more c.args.self.now _ (told c.args.finding) findings refl
+returns c = λ findings lacking is.
+    counted_more c.args.self.now _ (told c.args.finding) findings lacking refl
     (c.with_one.ensures.more ∙ ap (λ (t : Bool). c.args.self.now.weak + (if t then 1 else 0)) c.is_weak.ensures)
-    (c.with_one-2.ensures.more ∙ ap (λ (t : Bool). c.args.self.now.bad + (if t then 1 else 0)) c.is_unread.ensures) is
+    (c.with_one-2.ensures.more ∙ ap (λ (t : Bool). c.args.self.now.unread + (if t then 1 else 0)) c.is_unread.ensures) refl is
