@@ -13,7 +13,7 @@ use Rattle.dump_spec.specs.Answers.{Answer, Answers, Inputs, refused}
 use Rattle.dump_spec.specs.declared.asked.Asked.{Asked}
 use Rattle.dump_spec.specs.declared.status.Status.{Status}
 use Rattle.dump_spec.specs.declared.status.Status.TheVariants as status
-use Rattle.file_streams.specs.FileSink.{IsOnDisk, LookBroke, SyncBroke, bytes_of, file_of, sink_means}
+use Rattle.file_streams.specs.FileSink.{BrokeIn, Called, IsOnDisk, LookBroke, bytes_of, file_of, sink_means}
 use Rattle.file_streams.specs.declared.sink.FileSink.{FileSink}
 
 -- the files that are read, the sink of the output, and the file of its map
@@ -56,28 +56,32 @@ pub record IsAnswered {D K : Type 0} (d : disks.Meaning D) (k : sinks.Meaning K)
   pub mapped : IfSome (bytes_of d sure) (λ bytes. bytes ≡ answer.sure)
   pub on_disk : is_done ending.status ≡ true → IsOnDisk d sure
 
--- a fault cut it off: of each answer a front was written
-pub record IsCut {K : Type 0} (k : sinks.Meaning K) (inputs : Inputs) (asked : Asked) (old new : K) (ending : Ending) : Type 0 where
+-- a fault cut it off: of each answer a front was written, and a front of its map from what the file of the map was
+pub record IsCut {D K : Type 0} (d : disks.Meaning D) (k : sinks.Meaning K) (inputs : Inputs) (asked : Asked) (old new : K)
+    (begun sure : FileSink D) (ending : Ending) : Type 0 where
   pub faulty : (ending.status ≡ status.InputFailed) ⊎ (ending.status ≡ status.OutputFailed)
   pub front : (answer : Answer) → Answers inputs asked answer → TookFront k old new answer.printed
+  pub mapped : (answer : Answer) → Answers inputs asked answer → TookFront (sink_means d) begun sure answer.sure
   pub warned : ending.warned ≡ true → (answer : Answer) → Answers inputs asked answer → answer.warned ≡ true
 
--- the answer was written, and its map could not be put on the disk
+-- the answer was written, and its map, no call having failed, and then the sync of the map failed
 pub record IsNotKept {D K : Type 0} (d : disks.Meaning D) (k : sinks.Meaning K) (inputs : Inputs) (asked : Asked) (old new : K)
-    (sure : FileSink D) (ending : Ending) : Type 0 where
+    (begun sure : FileSink D) (ending : Ending) : Type 0 where
   pub answer : Answer
   pub answers : Answers inputs asked answer
   pub status : ending.status ≡ status.OutputFailed
   pub warned : ending.warned ≡ answer.warned
   pub printed : sinks.Wrote k old new answer.printed
   pub written : FileSink D
-  pub broke : SyncBroke d written sure
+  pub mapped : sinks.Wrote (sink_means d) begun written answer.sure
+  pub broke : BrokeIn d disks.Sync (file_of written) (file_of sure)
 
 -- how a run ended whose map goes into an empty file, or into none
-abbrev pub Writes : {D K : Type 0} → disks.Meaning D → sinks.Meaning K → Inputs → Asked → (old new : K) → (sure : FileSink D) → Ending →
-    Type 0
-Writes d k inputs asked old new sure ending =
-    IsAnswered d k inputs asked old new sure ending ⊎ IsCut k inputs asked old new ending ⊎ IsNotKept d k inputs asked old new sure ending
+abbrev pub Writes : {D K : Type 0} → disks.Meaning D → sinks.Meaning K → Inputs → Asked → (old new : K) → (begun sure : FileSink D) →
+    Ending → Type 0
+Writes d k inputs asked old new begun sure ending =
+    IsAnswered d k inputs asked old new sure ending ⊎ IsCut d k inputs asked old new begun sure ending
+    ⊎ IsNotKept d k inputs asked old new begun sure ending
 
 -- the file of the map has a byte: it stays as it is, and nothing else is touched
 pub record IsNotEmpty {D S K : Type 0} (d : disks.Meaning D) (inputs : Inputs) (asked : Asked) (old new : Outside D S K) (ending : Ending) :
@@ -85,14 +89,30 @@ pub record IsNotEmpty {D S K : Type 0} (d : disks.Meaning D) (inputs : Inputs) (
   pub answers : Answers inputs asked (refused false status.SureNotEmpty)
   pub status : ending.status ≡ status.SureNotEmpty
   pub warned : ending.warned ≡ false
-  pub kept : bytes_of d new.sure ≡ bytes_of d old.sure
+  pub looked : Called d disks.Look old.sure new.sure
+  pub read : new.read ≡ old.read
+  pub output : new.output ≡ old.output
+
+-- .. that was looked at first
+pub record Looked {D K : Type 0} (d : disks.Meaning D) (k : sinks.Meaning K) (inputs : Inputs) (asked : Asked) (old new : K)
+    (begun sure : FileSink D) (ending : Ending) : Type 0 where
+  pub seen : FileSink D
+  pub looked : Called d disks.Look begun seen
+  pub writes : Writes d k inputs asked old new seen sure ending
+
+-- the length of that file could not be had, and nothing else was touched
+pub record IsUnseen {D S K : Type 0} (d : disks.Meaning D) (old new : Outside D S K) (ending : Ending) : Type 0 where
+  pub status : ending.status ≡ status.OutputFailed
+  pub warned : ending.warned ≡ false
+  pub broke : LookBroke d old.sure new.sure
   pub read : new.read ≡ old.read
   pub output : new.output ≡ old.output
 
 -- how a run ended over files that tell what they hold
 abbrev pub Salvages : {D S K : Type 0} → disks.Meaning D → sinks.Meaning K → Inputs → Asked → (old new : Outside D S K) → Ending → Type 0
 Salvages d k inputs asked old new ending =
-    Writes d k inputs asked old.output new.output new.sure ending ⊎ IsNotEmpty d inputs asked old new ending
+    Looked d k inputs asked old.output new.output old.sure new.sure ending ⊎ IsNotEmpty d inputs asked old new ending
+    ⊎ IsUnseen d old new ending
 
 -- ---- faults
 
@@ -109,10 +129,15 @@ pub record ReadFailed {D S K : Type 0} (d : disks.Meaning D) (s : sources.Meanin
   pub read : OneRose (fault_counts d s old.read) (fault_counts d s new.read)
   pub output : k.faults new.output ≡ k.faults old.output
 
+-- no write of the file of the map failed, and then its sync did
+pub record MapUnsynced {D : Type 0} (d : disks.Meaning D) (old new : FileSink D) : Type 0 where
+  pub written : FileSink D
+  pub stood : (sink_means d).faults written ≡ (sink_means d).faults old
+  pub broke : BrokeIn d disks.Sync (file_of written) (file_of new)
+
 -- a write of the file of the map failed, or its sync
 abbrev pub MapBroke : {D : Type 0} → disks.Meaning D → (old new : FileSink D) → Type 0
-MapBroke {D} d old new =
-    Rose ((sink_means d).faults old) ((sink_means d).faults new) ⊎ ((written : FileSink D) × SyncBroke d written new)
+MapBroke d old new = Rose ((sink_means d).faults old) ((sink_means d).faults new) ⊎ MapUnsynced d old new
 
 -- .. or its length could not be had
 abbrev pub MapFailed : {D : Type 0} → disks.Meaning D → (old new : FileSink D) → Type 0

@@ -54,7 +54,7 @@ fn answer_files<D: Disk + Drop, S: Source, K: Sink>(
     requires fresh { IsFresh sure.old }
     requires empty { IfSome (bytes_of D.means sure.old) (λ bytes. bytes ≡ []) }
     ensures writes { (inputs : Inputs) → TellInputs D.means S.means read.old inputs → sure_refusal inputs.sure ≡ None →
-        Writes D.means K.means inputs asked.now output.old output.new sure.new result }
+        Writes D.means K.means inputs asked.now output.old output.new sure.old sure.new result }
     ensures counts { Counts D.means S.means K.means (MapBroke D.means sure.old sure.new)
         record { read = read.old; output = output.old; sure = sure.old }
         record { read = read.new; output = output.new; sure = sure.new } result.status }
